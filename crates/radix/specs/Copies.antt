@@ -1,0 +1,37 @@
+-- Two copies of a number, a and b: where they part, and the two ends that they allow.
+use mathlib.Core.List.{List, [], _∷_, _++_, map}
+use mathlib.Core.Bool.{cond}
+use Prim.Native.Nat.{ℕ, suc, pred, _-_}
+use lib.Dec.{ltb}
+use lib.ListN.{length, take, drop, replicate}
+use Rattle.radix.specs.Digits.{value}
+use Rattle.radix.specs.declared.Comparison.{Comparison}
+use Rattle.radix.specs.declared.Comparison.the-variants.{Equal, Parted, Crossed}
+
+-- the same, behind one more digit in which the copies agree
+abbrev pub deeper : Comparison → Comparison
+deeper Equal = Equal
+deeper (Parted p) = Parted (suc p)
+deeper Crossed = Crossed
+
+-- `Parted p`: a is the lower one, and p is the number of leading digits in which they agree
+abbrev pub compare : List ℕ → List ℕ → Comparison
+compare [] es = Equal
+compare (d ∷ ds) [] = Equal
+compare (d ∷ ds) (e ∷ es) = cond (ltb d e) (Parted 0) (cond (ltb e d) Crossed (deeper (compare ds es)))
+
+-- the first k digits, zeros after
+abbrev pub zerosAfter : ℕ → List ℕ → List ℕ
+zerosAfter k ds = take k ds ++ replicate (length ds - k) 0
+
+-- the first k digits, the largest digits after
+abbrev pub largestAfter : ℕ → List ℕ → List ℕ → List ℕ
+largestAfter k bs ds = take k ds ++ map pred (drop k bs)
+
+-- the count shown by document 01: the first p + 1 digits of b, zeros after
+abbrev pub highEnd : List ℕ → ℕ → List ℕ → ℕ
+highEnd bs p b = value bs (zerosAfter (suc p) b)
+
+-- the first p + 1 digits of a, the largest digits after
+abbrev pub lowEnd : List ℕ → ℕ → List ℕ → ℕ
+lowEnd bs p a = value bs (largestAfter (suc p) bs a)

@@ -1,0 +1,90 @@
+// Two copies of a count: where they part, and the counts that they allow.
+ghost use mathlib.Core.Path.{_≡_};
+ghost use mathlib.Core.Bool.{true};
+ghost use Prim.Native.Nat.{_≤_, _<_};
+ghost use lib.ListN.{length};
+ghost use Rattle.radix.specs.Digits.{valid};
+ghost use Rattle.radix.specs.Copies.{compare, lowEnd, highEnd};
+ghost use Rattle.radix.specs.Answers.{goodBases, compareOf, endsOf};
+use crate::Compared;
+use crate::Comparison;
+use crate::Count;
+use crate::Ends;
+use crate::Fault;
+use crate::mixed;
+
+fn first_difference(a: &[u8], b: &[u8]) -> Comparison
+    requires { ⌜ length (now a) ≡ length (now b) ⌝ }
+    ensures { λ r. ⌜ r ≡ compare (now (a .entry)) (now (b .entry)) ⌝ }
+{
+    let mut i: usize = 0;
+    while i < a.len() {
+        if a[i] < b[i] {
+            return Comparison::Parted(i);
+        }
+        if b[i] < a[i] {
+            return Comparison::Crossed;
+        }
+        i += 1;
+    }
+    Comparison::Equal
+}
+
+// The first copy against the second, digit by digit from the left.
+pub fn compared(a: &[u8], b: &[u8]) -> Compared
+    ensures { λ r. ⌜ r ≡ compareOf (now (a .entry)) (now (b .entry)) ⌝ }
+{
+    if a.len() != b.len() {
+        return Compared::Refused(Fault::WrongLength);
+    }
+    Compared::Is(first_difference(a, b))
+}
+
+// The first p + 1 digits of b, zeros after.
+fn high_end(bases: &[u16], p: usize, b: &[u8]) -> u64
+    requires { ⌜ (goodBases (now bases) ≡ true) × (valid (now bases) (now b) ≡ true) × (p < length (now bases)) ⌝ }
+    ensures { λ r. ⌜ r ≡ highEnd (now (bases .entry)) p (now (b .entry)) ⌝ }
+{
+    let kept = p + 1;
+    mixed::horner(&bases[..kept], &b[..kept]) * mixed::weight(&bases[kept..])
+}
+
+// The first p + 1 digits of a, the largest digits after.
+fn low_end(bases: &[u16], p: usize, a: &[u8]) -> u64
+    requires { ⌜ (goodBases (now bases) ≡ true) × (valid (now bases) (now a) ≡ true) × (p < length (now bases)) ⌝ }
+    ensures { λ r. ⌜ r ≡ lowEnd (now (bases .entry)) p (now (a .entry)) ⌝ }
+{
+    let kept = p + 1;
+    let w = mixed::weight(&bases[kept..]);
+    mixed::horner(&bases[..kept], &a[..kept]) * w + (w - 1)
+}
+
+// The counts that two copies allow: the low end and the high end, one count where they are equal.
+pub fn ends(bases: &[u16], a: &[u8], b: &[u8]) -> Ends
+    ensures { λ r. ⌜ r ≡ endsOf (now (bases .entry)) (now (a .entry)) (now (b .entry)) ⌝ }
+{
+    if !mixed::good(bases) {
+        return Ends::Refused(Fault::BadBases);
+    }
+    if a.len() != bases.len() {
+        return Ends::Refused(Fault::WrongLength);
+    }
+    if b.len() != bases.len() {
+        return Ends::Refused(Fault::WrongLength);
+    }
+    if !mixed::below(bases, a) {
+        return Ends::Refused(Fault::BadDigit);
+    }
+    if !mixed::below(bases, b) {
+        return Ends::Refused(Fault::BadDigit);
+    }
+    let c = first_difference(a, b);
+    match c {
+        Comparison::Equal => Ends::Same(Count(mixed::horner(bases, a))),
+        Comparison::Parted(p) => Ends::Between {
+            low: Count(low_end(bases, p, a)),
+            high: Count(high_end(bases, p, b)),
+        },
+        Comparison::Crossed => Ends::Crossed,
+    }
+}

@@ -1,0 +1,34 @@
+// Counts and their digits, over the bases that are lent.
+ghost use mathlib.Core.Path.{_≡_};
+ghost use Rattle.radix.specs.Answers.{digitOf, into, digitsInto, valueOf, asCount};
+use crate::Count;
+use crate::CountRead;
+use crate::Digit;
+use crate::Number;
+use crate::Written;
+use crate::mixed;
+
+// Digit k of a count, from the left, from 0.
+pub fn digit(bases: &[u16], k: usize, c: Count) -> Digit
+    ensures { λ r. ⌜ r ≡ digitOf (now (bases .entry)) k (c .0) ⌝ }
+{
+    mixed::digit(bases, k, c.0)
+}
+
+// The digits of a count, into as many bytes as there are bases.
+pub fn write(bases: &[u16], c: Count, out: &mut [u8]) -> Written
+    ensures { λ r. ⌜ into r (now (out .exit)) ≡ digitsInto (now (bases .entry)) (c .0) (now (out .entry)) ⌝ }
+{
+    mixed::write(bases, c.0, out)
+}
+
+// The count that digits say.
+pub fn read(bases: &[u16], digits: &[u8]) -> CountRead
+    ensures { λ r. ⌜ r ≡ asCount (valueOf (now (bases .entry)) (now (digits .entry))) ⌝ }
+{
+    let v = mixed::read(bases, digits);
+    match v {
+        Number::Is(x) => CountRead::Is(Count(x)),
+        Number::Refused(why) => CountRead::Refused(why),
+    }
+}
