@@ -1,57 +1,68 @@
+-- The loop keeps: the comparison from i on, behind i digits that agree, is that of the whole copies.
+use borrow.Author.Needs.{needs}
+use mathlib.Core.Path.{_≡_, sym, _∙_}
+use Prim.Native.Nat.{_≤_, _-_}
+use native.Mathlib.Omega.{arith}
+use lib.ListN.{length, drop}
+use Rattle.radix.specs.Copies.{compare}
+use Rattle.radix.proofs.Laws.Compares.{
+  behind,
+  behind-none,
+  compare-lower,
+  compare-higher,
+  compare-on,
+  compare-end,
+}
 use Rattle.radix.proofs.copies.first_difference.Statement.{statement}
 use Rattle.radix.proofs.copies.first_difference.Tie as tie
-use Rattle.radix.proofs.copies.first_difference.Reads as reads
-use Rattle.radix.proofs.copies.first_difference.Lts as lts
 
 abbrev Inv-loop : tie.InvT-loop
-Inv-loop a b i₀ i = ?
+Inv-loop a b i₀ i = (i ≤ length a) × (behind i (compare (drop i a) (drop i b)) ≡ compare a b)
 
 abbrev μ-loop : tie.MeasureT-loop
-μ-loop a b i₀ i = ?
+μ-loop a b i₀ i = length a - i
 
--- src/copies.rt:21:5
 loop-holds : tie.Need-loop-holds Inv-loop μ-loop
-loop-holds c = ?
+loop-holds c = (search needs, behind-none (compare (c .args .a .now) (c .args .b .now)))
 
--- src/copies.rt:22:12
 shared-slice-read-if1 : tie.Need-shared-slice-read-if1 Inv-loop μ-loop
-shared-slice-read-if1 c = ?
+shared-slice-read-if1 c = search needs
 
--- src/copies.rt:22:19
 shared-slice-read-if1-2 : tie.Need-shared-slice-read-if1-2 Inv-loop μ-loop
-shared-slice-read-if1-2 c = ?
+shared-slice-read-if1-2 c = search needs
 
--- src/copies.rt:23:13
 returns : tie.Need-returns Inv-loop μ-loop
-returns c = ?
+returns c =
+    let t = c .before .before .before in
+    sym (compare-lower _ _ _ (t .loop-test .taken) (omega arith) (c .if1 .taken)) ∙ t .before .loop .inv .1
 
--- src/copies.rt:25:12
 shared-slice-read-if2 : tie.Need-shared-slice-read-if2 Inv-loop μ-loop
-shared-slice-read-if2 c = ?
+shared-slice-read-if2 c = search needs
 
--- src/copies.rt:25:19
 shared-slice-read-if2-2 : tie.Need-shared-slice-read-if2-2 Inv-loop μ-loop
-shared-slice-read-if2-2 c = ?
+shared-slice-read-if2-2 c = search needs
 
--- src/copies.rt:26:13
 returns-2 : tie.Need-returns-2 Inv-loop μ-loop
-returns-2 c = ?
+returns-2 c =
+    let t = c .before .before .before .before .before .before in
+    sym (compare-higher _ _ _ (t .loop-test .taken) (omega arith) (c .if2 .taken)) ∙ t .before .loop .inv .1
 
--- src/copies.rt:28:9
 add-i : tie.Need-add-i Inv-loop μ-loop
-add-i c = ?
+add-i c = search needs
 
--- src/copies.rt:21:5
 loop-less : tie.Need-loop-less Inv-loop μ-loop
-loop-less c = ?
+loop-less c = search needs
 
--- src/copies.rt:21:5
 loop-again : tie.Need-loop-again Inv-loop μ-loop
-loop-again c = ?
+loop-again c =
+    let e = c .before .before .before in
+    let t = e .before .before .before in (
+      search needs,
+      compare-on _ _ _ (t .loop-test .taken) (omega arith) (e .if1 .left) (c .if2 .left) ∙ t .before .loop .inv .1,
+    )
 
--- src/copies.rt:16:1
 returns-3 : tie.Need-returns-3 Inv-loop μ-loop
-returns-3 c = ?
+returns-3 c = sym (compare-end _ _ _ (c .loop-test .left)) ∙ c .before .loop .inv .1
 
 pub first-difference-spec : {M : Type 1} → statement M
 first-difference-spec =

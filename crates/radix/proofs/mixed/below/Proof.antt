@@ -1,53 +1,56 @@
+-- The loop keeps: the digits from i on are valid exactly if all are.
+use borrow.Author.Needs.{needs}
+use mathlib.Core.Path.{_≡_, sym, _∙_}
+use Prim.Native.Nat.{_≤_, _-_}
+use native.Mathlib.Omega.{arith}
+use lib.ListN.{length, drop}
+use Rattle.radix.specs.Digits.{valid}
+use Rattle.radix.proofs.Laws.Turns.{valid-on, valid-off, valid-end}
 use Rattle.radix.proofs.mixed.below.Statement.{statement}
 use Rattle.radix.proofs.mixed.below.Tie as tie
-use Rattle.radix.proofs.mixed.below.Reads as reads
-use Rattle.radix.proofs.mixed.below.Lts as lts
 
 abbrev Inv-loop : tie.InvT-loop
-Inv-loop bases digits i₀ i = ?
+Inv-loop bases digits i₀ i = (i ≤ length bases) × (valid (drop i bases) (drop i digits) ≡ valid bases digits)
 
 abbrev μ-loop : tie.MeasureT-loop
-μ-loop bases digits i₀ i = ?
+μ-loop bases digits i₀ i = length bases - i
 
--- src/mixed.rt:119:5
 loop-holds : tie.Need-loop-holds Inv-loop μ-loop
-loop-holds c = ?
+loop-holds c = search needs
 
--- src/mixed.rt:120:12
 mul-if1 : tie.Need-mul-if1 Inv-loop μ-loop
-mul-if1 c = ?
+mul-if1 c = search needs
 
--- src/mixed.rt:120:12
 shared-slice-read-if1 : tie.Need-shared-slice-read-if1 Inv-loop μ-loop
-shared-slice-read-if1 c = ?
+shared-slice-read-if1 c = search needs
 
--- src/mixed.rt:120:24
 shared-slice-read-if1-2 : tie.Need-shared-slice-read-if1-2 Inv-loop μ-loop
-shared-slice-read-if1-2 c = ?
+shared-slice-read-if1-2 c = search needs
 
--- src/mixed.rt:120:24
 cast-if1 : tie.Need-cast-if1 Inv-loop μ-loop
-cast-if1 c = ?
+cast-if1 c = omega (arith, c .shared-slice-known2 .given (c .before .before .before .loop .i))
 
--- src/mixed.rt:121:13
 returns : tie.Need-returns Inv-loop μ-loop
-returns c = ?
+returns c =
+    let t = c .before .before .before in
+    sym (valid-off _ _ _ (t .loop-test .taken) (omega arith) (c .if1 .taken)) ∙ t .before .loop .inv .1
 
--- src/mixed.rt:123:9
 add-i : tie.Need-add-i Inv-loop μ-loop
-add-i c = ?
+add-i c = search needs
 
--- src/mixed.rt:119:5
 loop-less : tie.Need-loop-less Inv-loop μ-loop
-loop-less c = ?
+loop-less c = search needs
 
--- src/mixed.rt:119:5
 loop-again : tie.Need-loop-again Inv-loop μ-loop
-loop-again c = ?
+loop-again c =
+    let t = c .before .before .before in (
+      search needs,
+      valid-on _ _ _ (t .loop-test .taken) (omega arith) (c .if1 .left) ∙ t .before .loop .inv .1,
+    )
 
--- src/mixed.rt:114:1
 returns-2 : tie.Need-returns-2 Inv-loop μ-loop
-returns-2 c = ?
+returns-2 c =
+    sym (valid-end _ _ _ (c .loop-test .left) (omega arith)) ∙ c .before .loop .inv .1
 
 pub below-spec : {M : Type 1} → statement M
 below-spec =

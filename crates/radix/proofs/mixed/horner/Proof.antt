@@ -1,62 +1,79 @@
+-- The loop keeps: x, moved up by the bases from i on, and the digits from i on make up the whole value.
+use borrow.Author.Needs.{needs}
+use mathlib.Core.Path.{_≡_, _∙_}
+use Prim.Native.Nat.{_≤_, _-_, _*_, _+_}
+use native.Mathlib.Omega.{arith}
+use lib.ListN.{length, drop, drop-of-length-le}
+use Rattle.radix.specs.Digits.{product, value}
+use Rattle.radix.proofs.Laws.Values.{valid-is, valid-length}
+use Rattle.radix.proofs.Laws.Turns.{horner-on, horner-fits}
 use Rattle.radix.proofs.mixed.horner.Statement.{statement}
 use Rattle.radix.proofs.mixed.horner.Tie as tie
-use Rattle.radix.proofs.mixed.horner.Reads as reads
-use Rattle.radix.proofs.mixed.horner.Lts as lts
-use Rattle.radix.proofs.mixed.wide.Reads as wide-reads
 
 abbrev Inv-loop : tie.InvT-loop
-Inv-loop bases digits x₀ i₀ x i = ?
+Inv-loop bases digits x₀ i₀ x i =
+    (i ≤ length bases)
+    × (length digits ≡ length bases)
+    × (x * product (drop i bases) + value (drop i bases) (drop i digits) ≡ value bases digits)
 
 abbrev μ-loop : tie.MeasureT-loop
-μ-loop bases digits x₀ i₀ x i = ?
+μ-loop bases digits x₀ i₀ x i = length bases - i
 
--- src/mixed.rt:135:5
 loop-holds : tie.Need-loop-holds Inv-loop μ-loop
-loop-holds c = ?
+loop-holds c =
+    let p = c .before .before .pre in
+    let a = c .before .before .args in
+    (search needs, valid-length (valid-is (a .bases .now) (a .digits .now) (p .1)), omega arith)
 
--- src/mixed.rt:136:22
 mul-wide : tie.Need-mul-wide Inv-loop μ-loop
-mul-wide c = ?
+mul-wide c = search needs
 
--- src/mixed.rt:136:22
 shared-slice-read-wide : tie.Need-shared-slice-read-wide Inv-loop μ-loop
-shared-slice-read-wide c = ?
+shared-slice-read-wide c = search needs
 
--- src/mixed.rt:136:17
 wide-requires : tie.Need-wide-requires Inv-loop μ-loop
-wide-requires c κs = ?
+wide-requires c κs = search needs
 
--- src/mixed.rt:136:13
 mul-x : tie.Need-mul-x Inv-loop μ-loop
-mul-x c = ?
+mul-x c =
+    let t = c .before .before in
+    let p = t .before .before .before .before .pre in
+    let f = horner-fits _ _ _ _ (t .loop-test .taken) (omega arith) (p .0) (p .1) (t .before .loop .inv .2) in
+    record { fits = rw (c .wide .ensures) (omega arith) }
 
--- src/mixed.rt:136:34
 shared-slice-read-x : tie.Need-shared-slice-read-x Inv-loop μ-loop
-shared-slice-read-x c = ?
+shared-slice-read-x c = search needs
 
--- src/mixed.rt:136:34
 cast-x : tie.Need-cast-x Inv-loop μ-loop
-cast-x c = ?
+cast-x c = omega (arith, c .shared-slice-known4 .given (c .before .before .before .before .loop .i))
 
--- src/mixed.rt:136:13
 add-x : tie.Need-add-x Inv-loop μ-loop
-add-x c = ?
+add-x c =
+    let t = c .before .before .before in
+    let p = t .before .before .before .before .pre in
+    record {
+      fits =
+          rw (c .before .wide .ensures)
+          (horner-fits _ _ _ _ (t .loop-test .taken) (omega arith) (p .0) (p .1) (t .before .loop .inv .2));
+    }
 
--- src/mixed.rt:137:9
 add-i : tie.Need-add-i Inv-loop μ-loop
-add-i c = ?
+add-i c = search needs
 
--- src/mixed.rt:135:5
 loop-less : tie.Need-loop-less Inv-loop μ-loop
-loop-less c = ?
+loop-less c = search needs
 
--- src/mixed.rt:135:5
 loop-again : tie.Need-loop-again Inv-loop μ-loop
-loop-again c = ?
+loop-again c =
+    let t = c .before .before .before in (
+      search needs,
+      t .before .loop .inv .1,
+      rw (c .before .wide .ensures) (horner-on _ _ _ _ (t .loop-test .taken) (omega arith)) ∙ t .before .loop .inv .2,
+    )
 
--- src/mixed.rt:129:1
 returns : tie.Need-returns Inv-loop μ-loop
-returns c = ?
+returns c =
+    omega (arith, rw (drop-of-length-le _ (c .loop-test .left)) at (c .before .loop .inv .2))
 
 pub horner-spec : {M : Type 1} → statement M
 horner-spec =

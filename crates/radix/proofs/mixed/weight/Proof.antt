@@ -1,50 +1,56 @@
+-- The loop keeps: w times the product of the bases from i on is the whole product.
+use borrow.Author.Needs.{needs}
+use mathlib.Core.Path.{_≡_, sym, _∙_}
+use Prim.Native.Nat.{_≤_, _-_, _*_}
+use native.Mathlib.Nat.{one-mul, mul-one}
+use lib.ListN.{length, drop, drop-of-length-le}
+use Rattle.radix.specs.Digits.{product}
+use Rattle.radix.proofs.Laws.Turns.{weight-on, weight-fits}
 use Rattle.radix.proofs.mixed.weight.Statement.{statement}
 use Rattle.radix.proofs.mixed.weight.Tie as tie
-use Rattle.radix.proofs.mixed.weight.Reads as reads
-use Rattle.radix.proofs.mixed.weight.Lts as lts
-use Rattle.radix.proofs.mixed.wide.Reads as wide-reads
 
 abbrev Inv-loop : tie.InvT-loop
-Inv-loop bases w₀ i₀ w i = ?
+Inv-loop bases w₀ i₀ w i = (i ≤ length bases) × (w * product (drop i bases) ≡ product bases)
 
 abbrev μ-loop : tie.MeasureT-loop
-μ-loop bases w₀ i₀ w i = ?
+μ-loop bases w₀ i₀ w i = length bases - i
 
--- src/mixed.rt:46:5
 loop-holds : tie.Need-loop-holds Inv-loop μ-loop
-loop-holds c = ?
+loop-holds c = (search needs, one-mul _)
 
--- src/mixed.rt:47:22
 mul-wide : tie.Need-mul-wide Inv-loop μ-loop
-mul-wide c = ?
+mul-wide c = search needs
 
--- src/mixed.rt:47:22
 shared-slice-read-wide : tie.Need-shared-slice-read-wide Inv-loop μ-loop
-shared-slice-read-wide c = ?
+shared-slice-read-wide c = search needs
 
--- src/mixed.rt:47:17
 wide-requires : tie.Need-wide-requires Inv-loop μ-loop
-wide-requires c κs = ?
+wide-requires c κs = search needs
 
--- src/mixed.rt:47:13
 mul-w : tie.Need-mul-w Inv-loop μ-loop
-mul-w c = ?
+mul-w c =
+    let t = c .before .before in
+    let s = t .before .before .before in
+    record {
+      fits =
+          rw (c .wide .ensures)
+          (weight-fits _ _ _ (t .loop-test .taken) (s .pre .1) (s .pre .0) (t .before .loop .inv .1));
+    }
 
--- src/mixed.rt:48:9
 add-i : tie.Need-add-i Inv-loop μ-loop
-add-i c = ?
+add-i c = search needs
 
--- src/mixed.rt:46:5
 loop-less : tie.Need-loop-less Inv-loop μ-loop
-loop-less c = ?
+loop-less c = search needs
 
--- src/mixed.rt:46:5
 loop-again : tie.Need-loop-again Inv-loop μ-loop
-loop-again c = ?
+loop-again c =
+    let t = c .before .before in
+    (search needs, rw (c .wide .ensures) (weight-on _ _ _ (t .loop-test .taken)) ∙ t .before .loop .inv .1)
 
--- src/mixed.rt:40:1
 returns : tie.Need-returns Inv-loop μ-loop
-returns c = ?
+returns c =
+    sym (mul-one _) ∙ rw (drop-of-length-le _ (c .loop-test .left)) at (c .before .loop .inv .1)
 
 pub weight-spec : {M : Type 1} → statement M
 weight-spec =

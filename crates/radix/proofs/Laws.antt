@@ -1,0 +1,10 @@
+pub mod Tests
+pub mod Bases
+pub mod Products
+pub mod Values
+pub mod Places
+pub mod Turns
+pub mod Shares
+pub mod Compares
+pub mod Ends
+pub mod Sizes

@@ -1,0 +1,109 @@
+-- The value of the kept digits, moved up, and the largest digits, whose value is the product less 1.
+use borrow.Author.Needs.{needs}
+use mathlib.Core.Path.{sym}
+use Prim.Native.Nat.{suc, _+_}
+use native.Mathlib.Omega.{arith}
+use native.Mathlib.Numerals.{add-one}
+use lib.ListN.{length-drop}
+use lib.Seq.{length-take-le}
+use Rattle.radix.proofs.Laws.Bases.{few, good-drop, good-take}
+use Rattle.radix.proofs.Laws.Places.{lent-rest}
+use Rattle.radix.proofs.Laws.Products.{rest-pos}
+use Rattle.radix.proofs.Laws.Values.{valid-is, valid-length, valid-take}
+use Rattle.radix.proofs.Laws.Ends.{largest-after, ends-fit}
+use Rattle.radix.proofs.copies.low_end.Statement.{statement}
+use Rattle.radix.proofs.copies.low_end.Tie as tie
+
+add-kept : tie.Need-add-kept
+add-kept c = search needs
+
+mul-weight : tie.Need-mul-weight
+mul-weight c = search needs
+
+sub-weight : tie.Need-sub-weight
+sub-weight c = search needs
+
+part-weight-start : tie.Need-part-weight-start
+part-weight-start c = search needs
+
+part-weight-end : tie.Need-part-weight-end
+part-weight-end c = search needs
+
+weight-requires : tie.Need-weight-requires
+weight-requires c κs =
+    let s = c .before .before .before in
+    let b = s .args .bases .now in
+    let k = s .args .p + 1 in
+    rw (lent-rest k b) (omega (arith, few b (s .pre .0), length-drop k b), good-drop k b (s .pre .0))
+
+slice-aggregate-horner : tie.Need-slice-aggregate-horner
+slice-aggregate-horner c = sym (length-take-le _ _ (omega arith))
+
+slice-aggregate-horner-2 : tie.Need-slice-aggregate-horner-2
+slice-aggregate-horner-2 c =
+    let s = c .before .before .before .before .before .before in
+    let v = valid-length (valid-is (s .args .bases .now) (s .args .a .now) (s .pre .1)) in
+    sym (length-take-le _ _ (omega arith))
+
+horner-requires : tie.Need-horner-requires
+horner-requires c κs =
+    let s = c .before .before .before .before .before .before in
+    let b = s .args .bases .now in
+    let k = s .args .p + 1 in
+    (good-take k b (s .pre .0), valid-take k b (s .args .a .now) (s .pre .1))
+
+mul-result : tie.Need-mul-result
+mul-result c =
+    let w = c .before .before .before in
+    let s = c .before .before .before .before .before .before .before in
+    let b = s .args .bases .now in
+    let k = s .args .p + 1 in
+    let f = ends-fit k b (s .args .a .now) (s .pre .0) (s .pre .1) in
+    record { fits = rw (c .horner .ensures, w .weight .ensures, lent-rest k b) (omega arith) }
+
+sub-result : tie.Need-sub-result
+sub-result c =
+    let w = c .before .before .before in
+    let s = c .before .before .before .before .before .before .before in
+    let b = s .args .bases .now in
+    let k = s .args .p + 1 in
+    rw (w .weight .ensures, lent-rest k b) (rest-pos k b (s .pre .0))
+
+add-result : tie.Need-add-result
+add-result c =
+    let w = c .before .before .before in
+    let s = c .before .before .before .before .before .before .before in
+    let b = s .args .bases .now in
+    let k = s .args .p + 1 in
+    record {
+      fits =
+          rw (c .horner .ensures, w .weight .ensures, lent-rest k b)
+          (ends-fit k b (s .args .a .now) (s .pre .0) (s .pre .1));
+    }
+
+returns : tie.Need-returns
+returns c =
+    let w = c .before .before .before in
+    let s = c .before .before .before .before .before .before .before in
+    let b = s .args .bases .now in
+    let p = s .args .p in
+    rw (c .horner .ensures, w .weight .ensures, lent-rest (p + 1) b, add-one p)
+    (largest-after (suc p) b (s .args .a .now) (s .pre .0) (s .pre .1))
+
+pub low-end-spec : {M : Type 1} → statement M
+low-end-spec =
+    tie.close
+    (tie.spec
+    add-kept
+    mul-weight
+    sub-weight
+    part-weight-start
+    part-weight-end
+    weight-requires
+    slice-aggregate-horner
+    slice-aggregate-horner-2
+    horner-requires
+    mul-result
+    sub-result
+    add-result
+    returns)
