@@ -1,8 +1,6 @@
-pub mod Tests
+pub mod Places
 pub mod Bases
 pub mod Products
-pub mod Values
-pub mod Places
 pub mod Turns
 pub mod Shares
 pub mod Compares

@@ -5,3 +5,4 @@ pub mod Order
 pub mod Prefix
 pub mod Lemmas
 pub mod Span
+pub mod Reads

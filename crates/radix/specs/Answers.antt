@@ -1,13 +1,11 @@
 -- What the functions answer. The checks stand in document 01's order, and a refusal leaves what was lent as it was.
 use mathlib.Core.List.{List, [], _∷_}
-use mathlib.Core.Bool.{Bool, true, false, _&&_, cond}
+use mathlib.Core.Bool.{Bool, true, _&&_, cond}
 use Prim.Native.Nat.{ℕ}
 use lib.Dec.{ltb, leb, eqb}
 use lib.ListN.{length, getD, replicate}
 use Rattle.radix.specs.Digits.{product, value, digits, valid}
 use Rattle.radix.specs.Copies.{compare, lowEnd, highEnd}
-use Rattle.radix.specs.declared.Count.{Count}
-use Rattle.radix.specs.declared.Version.{Version}
 use Rattle.radix.specs.declared.Fault.{Fault}
 use Rattle.radix.specs.declared.Fault.the-variants.{BadBases, WrongLength, BadDigit, NoSuchDigit, TooLarge}
 use Rattle.radix.specs.declared.Digit.{Digit}

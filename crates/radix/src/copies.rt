@@ -1,7 +1,7 @@
 // Two copies of a count: where they part, and the counts that they allow.
 ghost use mathlib.Core.Path.{_≡_};
 ghost use mathlib.Core.Bool.{true};
-ghost use Prim.Native.Nat.{_≤_, _<_};
+ghost use Prim.Native.Nat.{_<_};
 ghost use lib.ListN.{length};
 ghost use Rattle.radix.specs.Digits.{valid};
 ghost use Rattle.radix.specs.Copies.{compare, lowEnd, highEnd};

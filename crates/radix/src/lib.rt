@@ -12,7 +12,8 @@ pub struct Count(pub u64);
 // A version of a record, document 01's version.
 pub struct Version(pub u32);
 
-// The number of a write among the writes of its sort, document 01's place of a posting in the run: from 1; the opening is 0.
+// The number of a write among the writes of its sort, document 01's place of a posting in the run: from 1;
+// the opening is 0.
 pub struct Place(pub u64);
 
 // Why a call was refused. `faultNumber` in specs/Answers.antt gives document 01's number of each.

@@ -1,4 +1,5 @@
-// Numbers of either sort. What is partial is kept inside the crate: callers come through `counts`, `versions` and `copies`.
+// Numbers of either sort. What is partial is kept inside the crate:
+// callers come through `counts`, `versions` and `copies`.
 ghost use mathlib.Core.Path.{_≡_};
 ghost use mathlib.Core.Bool.{true};
 ghost use Prim.Native.Nat.{_≤_};

@@ -1,10 +1,8 @@
 -- Where two copies part, seen from a place behind the first digits.
 use mathlib.Core.Path.{_≡_, refl, sym, ap}
-use mathlib.Core.List.{List, [], _∷_}
-use mathlib.Core.Bool.{Bool, true, false, cond}
-use Prim.Native.Nat.{ℕ, suc, _+_, _<_, _≤_}
+use mathlib.Core.List.{List}
+use Prim.Native.Nat.{ℕ, _+_, _<_, _≤_}
 use native.Mathlib.Omega.{arith}
-use lib.Dec.{ltb}
 use lib.ListN.{length, getD, drop, drop-of-length-le}
 use borrow.Author.Tests.{lt-ltb, le-ltb}
 use Rattle.radix.specs.Copies.{deeper, compare}
@@ -28,8 +26,7 @@ behind-deeper n Equal = refl
 behind-deeper n (Parted p) = ap Parted (omega arith)
 behind-deeper n Crossed = refl
 
--- ---- one turn of the loop that compares
-
+-- one turn of the loop that compares
 module _ (a b : List ℕ) (i : ℕ) (h : i < length a) (g : i < length b) where
   pub compare-lower : getD a i 0 < getD b i 0 → behind i (compare (drop i a) (drop i b)) ≡ Parted i
   compare-lower l =
@@ -49,31 +46,3 @@ module _ (a b : List ℕ) (i : ℕ) (h : i < length a) (g : i < length b) where
 
 pub compare-end : (a b : List ℕ) (i : ℕ) → length a ≤ i → behind i (compare (drop i a) (drop i b)) ≡ Equal
 compare-end a b i h = rw (drop-of-length-le a h)
-
--- ---- copies part at one of their digits
-
--- how many digits two copies must have, to part where they do
-abbrev reach : Comparison → ℕ
-reach Equal = 0
-reach (Parted p) = suc p
-reach Crossed = 0
-
-reach-deeper : (o : Comparison) (n : ℕ) → reach o ≤ n → reach (deeper o) ≤ suc n
-reach-deeper Equal n h = omega arith
-reach-deeper (Parted p) n h = omega arith
-reach-deeper Crossed n h = omega arith
-
-reach-cond :
-    (s t : Bool) (o : Comparison) (n : ℕ) → reach o ≤ n →
-    reach (cond s (Parted 0) (cond t Crossed (deeper o))) ≤ suc n
-reach-cond true t o n h = omega arith
-reach-cond false true o n h = omega arith
-reach-cond false false o n h = reach-deeper o n h
-
-reach-within : (a b : List ℕ) → reach (compare a b) ≤ length a
-reach-within [] b = omega arith
-reach-within (d ∷ a) [] = omega arith
-reach-within (d ∷ a) (e ∷ b) = reach-cond (ltb d e) (ltb e d) (compare a b) (length a) (reach-within a b)
-
-pub parted-within : (a b : List ℕ) {p : ℕ} → compare a b ≡ Parted p → p < length a
-parted-within a b e = omega (arith, ap reach e, reach-within a b)

@@ -1,32 +1,24 @@
 -- The product of good bases: above 0, and so small that it fits where it is made.
-use mathlib.Core.Path.{_≡_, sym, _∙_, ap}
-use mathlib.Core.List.{List, [], _∷_, _++_}
+use mathlib.Core.Path.{_≡_}
+use mathlib.Core.List.{List, [], _∷_}
 use mathlib.Core.Bool.{true}
-use Prim.Native.Nat.{ℕ, _*_, _^_, _≤_, _<_}
-use native.Mathlib.Nat.{mul-assoc, mul-pos, mul-le-mul, pow-suc, pow-le-pow-right, le-trans}
+use Prim.Native.Nat.{ℕ, _^_, _≤_, _<_}
+use native.Mathlib.Nat.{mul-pos, mul-le-mul, pow-suc, pow-le-pow-right, le-trans}
 use native.Mathlib.Omega.{arith}
-use lib.ListN.{length, take, drop, take-append-drop}
+use lib.ListN.{length, drop}
 use Rattle.radix.specs.Digits.{product}
 use Rattle.radix.specs.Answers.{goodBases}
 use Rattle.radix.proofs.Laws.Bases.{Good, few, each, least, most, others, good-drop}
 
-pub product-append : (cs bs : List ℕ) → product (cs ++ bs) ≡ product bs * product cs
-product-append [] bs = omega arith
-product-append (c ∷ cs) bs = rw (product-append cs bs, mul-assoc (product bs) (product cs) c)
-
--- the product is that of the first k bases and that of the others
-pub product-parts : (k : ℕ) (bs : List ℕ) → product (drop k bs) * product (take k bs) ≡ product bs
-product-parts k bs = sym (product-append (take k bs) (drop k bs)) ∙ ap product (take-append-drop k bs)
-
-pub product-pos : (bs : List ℕ) → Good bs → 0 < product bs
-product-pos [] h = omega arith
-product-pos (b ∷ bs) h =
+pub good-pos : (bs : List ℕ) → Good bs → 0 < product bs
+good-pos [] h = omega arith
+good-pos (b ∷ bs) h =
     let g : 0 < b = omega (arith, least b bs h) in
-    mul-pos (product-pos bs (others b bs h)) g
+    mul-pos (good-pos bs (others b bs h)) g
 
 -- the product of the bases from one place on
 pub rest-pos : (k : ℕ) (bs : List ℕ) → goodBases bs ≡ true → 0 < product (drop k bs)
-rest-pos k bs g = product-pos (drop k bs) (each (drop k bs) (good-drop k bs g))
+rest-pos k bs g = good-pos (drop k bs) (each (drop k bs) (good-drop k bs g))
 
 product-most : (bs : List ℕ) → Good bs → product bs ≤ 256 ^ length bs
 product-most [] h = omega arith

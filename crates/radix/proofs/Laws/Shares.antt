@@ -2,33 +2,33 @@
 use mathlib.Core.Path.{_≡_, refl, _∙_, ap}
 use mathlib.Core.List.{List, [], _∷_}
 use mathlib.Core.Bool.{Bool, true, false}
-use Prim.Native.Nat.{ℕ, zero, suc, _+_, _*_, _/_, _%_, _≤_, _<_}
+use Prim.Native.Nat.{ℕ, _+_, _*_, _/_, _≤_, _<_}
 use native.Mathlib.Nat.{mul-comm, div-lt-iff-lt-mul, le-div-iff-mul-le, div-div-eq-div-mul}
 use native.Mathlib.Omega.{arith}
-use native.Mathlib.Numerals.{add-one}
 use lib.ListN.{length, getD, take, drop}
 use lib.Dec.{ltb}
 use borrow.Author.Tests.{ltb-true, ltb-false, lt-ltb, le-ltb}
-use Rattle.radix.specs.Digits.{product, digits}
+use Rattle.radix.specs.Digits.{product}
 use Rattle.radix.specs.Answers.{goodBases}
+use Rattle.radix.proofs.Theorems.Prefix.{product-split}
 use Rattle.radix.proofs.Laws.Bases.{Good, each, least, most, good-drop}
-use Rattle.radix.proofs.Laws.Products.{rest-pos, product-parts}
+use Rattle.radix.proofs.Laws.Products.{rest-pos}
 use Rattle.radix.proofs.Laws.Places.{from}
 
 -- x is below a product if its share is below the other factor: the product itself is not made
 module _ (x p b : ℕ) (h : 0 < p) where
-  shared-as : (t : Bool) → ltb x (p * b) ≡ t → ltb (x / p) b ≡ t
-  shared-as true e = lt-ltb _ _ (div-lt-iff-lt-mul h .1 (rw (mul-comm p b) at (ltb-true x (p * b) e)))
-  shared-as false e = le-ltb _ _ (le-div-iff-mul-le h .1 (rw (mul-comm p b) at (ltb-false x (p * b) e)))
+  shared-as : (t : Bool) → ltb x (b * p) ≡ t → ltb (x / p) b ≡ t
+  shared-as true e = lt-ltb _ _ (div-lt-iff-lt-mul h .1 (ltb-true x (b * p) e))
+  shared-as false e = le-ltb _ _ (le-div-iff-mul-le h .1 (ltb-false x (b * p) e))
 
-  pub shared : ltb (x / p) b ≡ ltb x (p * b)
-  shared = shared-as (ltb x (p * b)) refl
+  pub shared : ltb (x / p) b ≡ ltb x (b * p)
+  shared = shared-as (ltb x (b * p)) refl
 
 pub fits-first :
     (bs : List ℕ) (x : ℕ) → goodBases bs ≡ true → 0 < length bs →
     ltb (x / product (drop 1 bs)) (getD bs 0 0) ≡ ltb x (product bs)
 fits-first [] x g h = absurd (omega arith)
-fits-first (b ∷ bs) x g h = shared x (product bs) b (rest-pos 1 (b ∷ bs) g)
+fits-first (b ∷ bs) x g h = rw (mul-comm (product bs) b) (shared x (product bs) b (rest-pos 1 (b ∷ bs) g))
 
 module _ (bs : List ℕ) (k : ℕ) (g : goodBases bs ≡ true) (h : k < length bs) where
   here : Good (getD bs k 0 ∷ drop (k + 1) bs)
@@ -45,11 +45,4 @@ module _ (bs : List ℕ) (k : ℕ) (g : goodBases bs ≡ true) (h : k < length b
   fits-digit x =
       let e : product (drop k bs) ≡ product (drop (k + 1) bs) * getD bs k 0 = ap product (from bs k h) in
       rw (div-div-eq-div-mul x (product (drop (k + 1) bs)) (getD bs k 0), ← e)
-      (shared x (product (drop k bs)) (product (take k bs)) (rest-pos k bs g) ∙ ap (ltb x) (product-parts k bs))
-
-pub digit-at :
-    (bs : List ℕ) (k x : ℕ) → k < length bs →
-    getD (digits bs x) k 0 ≡ x / product (drop (k + 1) bs) % getD bs k 0
-digit-at [] k x h = absurd (omega arith)
-digit-at (b ∷ bs) zero x h = refl
-digit-at (b ∷ bs) (suc k) x h = rw (add-one (suc k)) (rw (add-one k) at (digit-at bs k x (omega arith)))
+      (shared x (product (drop k bs)) (product (take k bs)) (rest-pos k bs g) ∙ ap (ltb x) (product-split k bs))

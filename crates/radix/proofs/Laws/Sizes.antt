@@ -10,8 +10,8 @@ use Rattle.radix.specs.Digits.{value, valid}
 use Rattle.radix.specs.Answers.{goodBases, valueOf}
 use Rattle.radix.specs.declared.Number.{Number}
 use Rattle.radix.specs.declared.Fault.the-variants.{BadBases, WrongLength, BadDigit}
+use Rattle.radix.proofs.Theorems.RoundTrip.{valid-sound, value-lt}
 use Rattle.radix.proofs.Laws.Products.{product-four}
-use Rattle.radix.proofs.Laws.Values.{valid-is, value-lt}
 
 module _ (bs ds : List ℕ) (x : ℕ) (h : length bs ≤ 4) where
   size-as :
@@ -23,7 +23,7 @@ module _ (bs ds : List ℕ) (x : ℕ) (h : length bs ≤ 4) where
       x < 2 ^ 32
   size-as true true true g v e =
       let f : x ≡ value bs ds = cc in
-      omega (arith, value-lt (valid-is bs ds v), product-four bs g h)
+      omega (arith, value-lt (valid-sound bs ds v), product-four bs g h)
   size-as true true false g v e = let z : _≡_ {A = ℕ} 0 1 = cc in absurd (omega arith)
   size-as true false u g v e = let z : _≡_ {A = ℕ} 0 1 = cc in absurd (omega arith)
   size-as false t u g v e = let z : _≡_ {A = ℕ} 0 1 = cc in absurd (omega arith)

@@ -3,15 +3,16 @@ use mathlib.Core.Path.{_≡_, _∙_}
 use mathlib.Core.List.{List}
 use mathlib.Core.Bool.{true, false}
 use Prim.Native.Nat.{ℕ, _+_, _-_, _*_, _/_, _%_, _^_, _≤_, _<_}
-use native.Mathlib.Nat.{mul-comm, mul-assoc, add-mul, le-mul-of-pos-right, div-div-eq-div-mul}
+use native.Mathlib.Nat.{mul-comm, mul-assoc, le-mul-of-pos-right, div-div-eq-div-mul}
 use native.Mathlib.Omega.{arith}
 use lib.ListN.{length, getD, set, drop, length-set, drop-of-length-le}
 use lib.Seq.{getD-set-same, drop-set-lt}
 use borrow.Author.Tests.{lt-ltb, le-ltb, le-leb, lt-leb}
 use Rattle.radix.specs.Digits.{product, value, digits, valid}
 use Rattle.radix.specs.Answers.{all, goodBase, goodBases}
+use Rattle.radix.proofs.Theorems.Division.{regroup}
+use Rattle.radix.proofs.Theorems.RoundTrip.{valid-sound, value-lt}
 use Rattle.radix.proofs.Laws.Products.{rest-pos, product-eight, product-seven}
-use Rattle.radix.proofs.Laws.Values.{valid-is, value-lt}
 use Rattle.radix.proofs.Laws.Places.{from, from-left}
 
 -- ---- the test of the bases
@@ -58,17 +59,16 @@ module _ (bs : List ℕ) (i w : ℕ) (h : i < length bs) where
 
 -- ---- the value
 
--- q more digits in front of d and v
-regroup : (q p b d v : ℕ) → (q * b + d) * p + v ≡ q * (p * b) + (d * p + v)
-regroup q p b d v = rw (mul-comm p b, ← mul-assoc, add-mul) (omega arith)
-
 module _ (bs ds : List ℕ) (i x : ℕ) (h : i < length bs) (g : i < length ds) where
   pub horner-on :
       (x * getD bs i 0 + getD ds i 0) * product (drop (i + 1) bs) + value (drop (i + 1) bs) (drop (i + 1) ds) ≡
       x * product (drop i bs) + value (drop i bs) (drop i ds)
   horner-on =
-      rw (from bs i h, from ds i g)
-      (regroup x (product (drop (i + 1) bs)) (getD bs i 0) (getD ds i 0) (value (drop (i + 1) bs) (drop (i + 1) ds)))
+      rw (
+        from bs i h,
+        from ds i g,
+        regroup x (product (drop (i + 1) bs)) (getD bs i 0) (getD ds i 0) (value (drop (i + 1) bs) (drop (i + 1) ds)),
+      )
 
   pub horner-fits :
       goodBases bs ≡ true → valid bs ds ≡ true →
@@ -79,7 +79,7 @@ module _ (bs ds : List ℕ) (i x : ℕ) (h : i < length bs) (g : i < length ds) 
         arith,
         le-mul-of-pos-right (x * getD bs i 0 + getD ds i 0) (rest-pos (i + 1) bs k),
         horner-on,
-        value-lt (valid-is bs ds v),
+        value-lt (valid-sound bs ds v),
         product-eight bs k,
       )
 

@@ -22,6 +22,14 @@ value-largest (more {b = zero} h v) = absurd (omega arith)
 value-largest (more {b = suc b} {bs = bs} h v) =
     omega (arith, value-largest v, suc-mul b (product bs), mul-comm (suc b) (product bs))
 
+-- the ends where the first digit is the last that is kept
+pub highEnd-here : (b e : ℕ) (bs es : List ℕ) → highEnd (b ∷ bs) 0 (e ∷ es) ≡ e * product bs
+highEnd-here b e bs es = omega (arith, value-zeros bs (length (e ∷ es) - 1))
+
+pub lowEnd-here : (b d : ℕ) {bs ds : List ℕ} → Valid bs ds
+    → lowEnd (b ∷ bs) 0 (d ∷ ds) + 1 ≡ d * product bs + product bs
+lowEnd-here b d {bs} v = omega (arith, value-largest v)
+
 valid-zeros : {bs ds : List ℕ} → Valid bs ds → Valid bs (replicate (length ds) 0)
 valid-zeros none = none
 valid-zeros (more {b} h v) = let g : 0 < b = omega arith in more g (valid-zeros v)
@@ -51,14 +59,6 @@ highEnd-lt p v = value-lt (valid-zerosAfter (suc p) v)
 
 pub lowEnd-lt : (p : ℕ) {bs a : List ℕ} → Valid bs a → lowEnd bs p a < product bs
 lowEnd-lt p v = value-lt (valid-largestAfter (suc p) v)
-
--- the ends where the first digit is the last that is kept
-pub highEnd-here : (b e : ℕ) (bs es : List ℕ) → highEnd (b ∷ bs) 0 (e ∷ es) ≡ e * product bs
-highEnd-here b e bs es = omega (arith, value-zeros bs (length (e ∷ es) - 1))
-
-pub lowEnd-here : (b d : ℕ) {bs ds : List ℕ} → Valid bs ds
-    → lowEnd (b ∷ bs) 0 (d ∷ ds) + 1 ≡ d * product bs + product bs
-lowEnd-here b d {bs} v = omega (arith, value-largest v)
 
 -- the ends where the first digit agrees and more are kept
 pub highEnd-deeper : (b e p : ℕ) (bs es : List ℕ)

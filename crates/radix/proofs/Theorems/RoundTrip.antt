@@ -50,6 +50,14 @@ valid-digits [] x h = none
 valid-digits (b ∷ bs) x h =
     more (mod-lt _ (right-pos (product bs) b h)) (valid-digits bs x (left-pos (product bs) b h))
 
+-- from a number to its digits and back: for a number of any size, with its top in front
+pub top-and-digits : (bs : List ℕ) (x : ℕ) → x / product bs * product bs + value bs (digits bs x) ≡ x
+top-and-digits [] x = simp (div-one, mul-one) (omega arith)
+top-and-digits (b ∷ bs) x = omega (arith, split x (product bs) b, top-and-digits bs x)
+
+pub value-digits : (bs : List ℕ) (x : ℕ) → x < product bs → value bs (digits bs x) ≡ x
+value-digits bs x h = omega (arith, rw (div-eq-of-lt h, zero-mul) at (top-and-digits bs x))
+
 -- valid digits say a number below the product
 pub value-lt : {bs ds : List ℕ} → Valid bs ds → value bs ds < product bs
 value-lt none = omega arith
@@ -58,14 +66,6 @@ value-lt (more {b} {d} {bs} {ds} h v) =
 
 pub product-pos : {bs ds : List ℕ} → Valid bs ds → 0 < product bs
 product-pos v = omega (arith, value-lt v)
-
--- from a number to its digits and back: for a number of any size, with its top in front
-pub top-and-digits : (bs : List ℕ) (x : ℕ) → x / product bs * product bs + value bs (digits bs x) ≡ x
-top-and-digits [] x = simp (div-one, mul-one) (omega arith)
-top-and-digits (b ∷ bs) x = omega (arith, split x (product bs) b, top-and-digits bs x)
-
-pub value-digits : (bs : List ℕ) (x : ℕ) → x < product bs → value bs (digits bs x) ≡ x
-value-digits bs x h = omega (arith, rw (div-eq-of-lt h, zero-mul) at (top-and-digits bs x))
 
 -- from digits to their number and back: the digits stay under any top q
 digits-under : {bs ds : List ℕ} → Valid bs ds → (q : ℕ) → digits bs (q * product bs + value bs ds) ≡ ds
@@ -85,11 +85,12 @@ digits-under (more {b} {d} {bs} {ds} h v) q =
 pub digits-value : {bs ds : List ℕ} → Valid bs ds → digits bs (value bs ds) ≡ ds
 digits-value {bs} {ds} v = rw (← zero-add (value bs ds), ← zero-mul (product bs)) (digits-under v 0)
 
--- what the test says
-both : (s t : Bool) → s && t ≡ true → (s ≡ true) × (t ≡ true)
+-- what a test of two parts says of each
+pub both : (s t : Bool) → s && t ≡ true → (s ≡ true) × (t ≡ true)
 both true t h = (refl, h)
 both false t h = absurd (let z : _≡_ {A = ℕ} 0 1 = cc in omega arith)
 
+-- what the test of digits says
 pub valid-sound : (bs ds : List ℕ) → valid bs ds ≡ true → Valid bs ds
 valid-sound [] [] h = none
 valid-sound [] (d ∷ ds) h = absurd (let z : _≡_ {A = ℕ} 0 1 = cc in omega arith)

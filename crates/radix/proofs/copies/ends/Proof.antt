@@ -4,11 +4,11 @@ use borrow.Author.Tests.{not-true, not-false, eq-eqb, ne-eqb}
 use mathlib.Core.Path.{_≡_, sym, _∙_}
 use mathlib.Core.Bool.{true}
 use Prim.Native.Nat.{_<_}
-use native.Mathlib.Omega.{arith}
 use lib.ListN.{length}
 use Rattle.radix.specs.Digits.{valid}
 use Rattle.radix.specs.Answers.{goodBases, endsAt, endsOf}
-use Rattle.radix.proofs.Laws.Compares.{parted-within}
+use Rattle.radix.proofs.Theorems.RoundTrip.{valid-sound}
+use Rattle.radix.proofs.Theorems.Order.{parted-parts}
 use Rattle.radix.proofs.copies.ends.Statement.{statement}
 use Rattle.radix.proofs.copies.ends.Tie as tie
 
@@ -58,13 +58,14 @@ parted-here : (c : tie.After-known-told) →
     c .before .c .given .0 .0 < length (e .before .before .before .before .before .args .bases .now)
 parted-here c =
     let d = c .before .before .before in
-    let e = d .before .before .before .before .before .before in
-    let a = e .before .before .before .before .before .before .args in
-    omega (
-      arith,
-      parted-within (a .a .now) (a .b .now) (sym (d .first-difference .ensures) ∙ c .before .c .given .1),
-      e .if2 .left,
-    )
+    let f = d .before in
+    let a = f .before .before .before .before .before .before .before .before .before .before .before .args in
+    parted-parts
+    (valid-sound (a .bases .now) (a .a .now) (first-here (f .before .before)))
+    (valid-sound (a .bases .now) (a .b .now) (second-here f))
+    _
+    (sym (d .first-difference .ensures) ∙ c .before .c .given .1)
+    .within
 
 returns-2 : tie.Need-returns-2
 returns-2 c = rw (good-here (c .before), ne-eqb _ _ (c .if2 .taken))

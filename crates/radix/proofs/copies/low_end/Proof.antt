@@ -4,13 +4,12 @@ use mathlib.Core.Path.{sym}
 use Prim.Native.Nat.{suc, _+_}
 use native.Mathlib.Omega.{arith}
 use native.Mathlib.Numerals.{add-one}
-use lib.ListN.{length-drop}
 use lib.Seq.{length-take-le}
-use Rattle.radix.proofs.Laws.Bases.{few, good-drop, good-take}
+use Rattle.radix.proofs.Theorems.RoundTrip.{valid-sound, length-valid}
+use Rattle.radix.proofs.Laws.Bases.{good-take, lent-few}
 use Rattle.radix.proofs.Laws.Places.{lent-rest}
 use Rattle.radix.proofs.Laws.Products.{rest-pos}
-use Rattle.radix.proofs.Laws.Values.{valid-is, valid-length, valid-take}
-use Rattle.radix.proofs.Laws.Ends.{largest-after, ends-fit}
+use Rattle.radix.proofs.Laws.Ends.{kept-valid, largest-after, ends-fit}
 use Rattle.radix.proofs.copies.low_end.Statement.{statement}
 use Rattle.radix.proofs.copies.low_end.Tie as tie
 
@@ -32,9 +31,7 @@ part-weight-end c = search needs
 weight-requires : tie.Need-weight-requires
 weight-requires c κs =
     let s = c .before .before .before in
-    let b = s .args .bases .now in
-    let k = s .args .p + 1 in
-    rw (lent-rest k b) (omega (arith, few b (s .pre .0), length-drop k b), good-drop k b (s .pre .0))
+    lent-few (s .args .p + 1) (s .args .bases .now) (s .pre .0) (omega arith) (omega arith)
 
 slice-aggregate-horner : tie.Need-slice-aggregate-horner
 slice-aggregate-horner c = sym (length-take-le _ _ (omega arith))
@@ -42,7 +39,7 @@ slice-aggregate-horner c = sym (length-take-le _ _ (omega arith))
 slice-aggregate-horner-2 : tie.Need-slice-aggregate-horner-2
 slice-aggregate-horner-2 c =
     let s = c .before .before .before .before .before .before in
-    let v = valid-length (valid-is (s .args .bases .now) (s .args .a .now) (s .pre .1)) in
+    let v = length-valid (valid-sound (s .args .bases .now) (s .args .a .now) (s .pre .1)) in
     sym (length-take-le _ _ (omega arith))
 
 horner-requires : tie.Need-horner-requires
@@ -50,7 +47,7 @@ horner-requires c κs =
     let s = c .before .before .before .before .before .before in
     let b = s .args .bases .now in
     let k = s .args .p + 1 in
-    (good-take k b (s .pre .0), valid-take k b (s .args .a .now) (s .pre .1))
+    (good-take k b (s .pre .0), kept-valid k b (s .args .a .now) (s .pre .1))
 
 mul-result : tie.Need-mul-result
 mul-result c =
@@ -58,7 +55,7 @@ mul-result c =
     let s = c .before .before .before .before .before .before .before in
     let b = s .args .bases .now in
     let k = s .args .p + 1 in
-    let f = ends-fit k b (s .args .a .now) (s .pre .0) (s .pre .1) in
+    let f = ends-fit k b (s .args .a .now) (s .pre .1) (s .pre .0) in
     record { fits = rw (c .horner .ensures, w .weight .ensures, lent-rest k b) (omega arith) }
 
 sub-result : tie.Need-sub-result
@@ -78,7 +75,7 @@ add-result c =
     record {
       fits =
           rw (c .horner .ensures, w .weight .ensures, lent-rest k b)
-          (ends-fit k b (s .args .a .now) (s .pre .0) (s .pre .1));
+          (ends-fit k b (s .args .a .now) (s .pre .1) (s .pre .0));
     }
 
 returns : tie.Need-returns
@@ -88,7 +85,7 @@ returns c =
     let b = s .args .bases .now in
     let p = s .args .p in
     rw (c .horner .ensures, w .weight .ensures, lent-rest (p + 1) b, add-one p)
-    (largest-after (suc p) b (s .args .a .now) (s .pre .0) (s .pre .1))
+    (largest-after (suc p) b (s .args .a .now) (s .pre .1))
 
 pub low-end-spec : {M : Type 1} → statement M
 low-end-spec =

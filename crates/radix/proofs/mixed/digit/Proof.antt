@@ -6,15 +6,17 @@ use mathlib.Core.Bool.{true}
 use Prim.Native.Nat.{_<_, _≤_, _/_, _+_}
 use native.Mathlib.Nat.{mod-lt}
 use native.Mathlib.Omega.{arith}
-use lib.ListN.{length, length-drop}
+use native.Mathlib.Numerals.{add-one}
+use lib.ListN.{length}
 use lib.Seq.{length-take-le}
 use lib.Dec.{ltb}
 use Rattle.radix.specs.Digits.{product}
 use Rattle.radix.specs.Answers.{goodBases}
-use Rattle.radix.proofs.Laws.Bases.{few, good-drop, good-take}
+use Rattle.radix.proofs.Theorems.RoundTrip.{digit-at}
+use Rattle.radix.proofs.Laws.Bases.{few, good-take, lent-few}
 use Rattle.radix.proofs.Laws.Products.{rest-pos}
 use Rattle.radix.proofs.Laws.Places.{lent-rest}
-use Rattle.radix.proofs.Laws.Shares.{base-pos, base-most, fits-digit, digit-at}
+use Rattle.radix.proofs.Laws.Shares.{base-pos, base-most, fits-digit}
 use Rattle.radix.proofs.mixed.digit.Statement.{statement}
 use Rattle.radix.proofs.mixed.digit.Tie as tie
 
@@ -48,7 +50,7 @@ fits-here c =
     let w = d .before .before in
     let e = w .before .before in
     let a = e .before .before .before .before .args in
-    rw (c .weight2 .ensures, d .wide .ensures, w .weight .ensures, lent-rest (a .k + 1) (a .bases .now))
+    rw (c .weight2 .ensures, d .wide .ensures, w .weight .ensures, lent-rest)
     (fits-digit (a .bases .now) (a .k) (good-here (e .before)) (e .if2 .left) (a .x))
 
 returns-2 : tie.Need-returns-2
@@ -72,10 +74,7 @@ part-weight-end c = search needs
 weight-requires : tie.Need-weight-requires
 weight-requires c κs =
     let s = c .before .before .before .before .before in
-    let b = s .args .bases .now in
-    let g = good-here (c .before .before) in
-    let k = s .args .k + 1 in
-    rw (lent-rest k b) (omega (arith, few b g, length-drop k b), good-drop k b g)
+    lent-few (s .args .k + 1) (s .args .bases .now) (good-here (c .before .before)) (omega arith) (omega arith)
 
 div-left : tie.Need-div-left
 div-left c =
@@ -110,8 +109,12 @@ div-if3 c = base-here (c .before .before) .0
 
 returns-3 : tie.Need-returns-3
 returns-3 c =
-    let e = c .before .before .before .before .before .before .before in
-    rw (good-here (e .before), lt-ltb _ _ (e .if2 .left), sym (fits-here (c .before)) ∙ le-ltb _ _ (c .if3 .taken))
+    let d = c .before .before .before in
+    let w = d .before .before in
+    let e = w .before .before in
+    let left = e .before .before .before .before .args .x / w .weight .result / d .wide .result in
+    let h : c .before .weight2 .result ≤ left = omega arith in
+    rw (good-here (e .before), lt-ltb _ _ (e .if2 .left), sym (fits-here (c .before)) ∙ le-ltb _ _ h)
 
 rem-t12 : tie.Need-rem-t12
 rem-t12 c = base-here (c .before .before .before) .0
@@ -134,10 +137,11 @@ returns-4 c =
       good-here (e .before),
       lt-ltb _ _ (e .if2 .left),
       sym (fits-here (c .before)) ∙ lt-ltb _ _ (c .if3 .left),
-      digit-at (a .bases .now) (a .k) (a .x) (e .if2 .left),
+      digit-at (a .bases .now) (a .x) (a .k) (e .if2 .left),
       d .wide .ensures,
       w .weight .ensures,
-      lent-rest (a .k + 1) (a .bases .now),
+      lent-rest,
+      add-one (a .k),
     )
 
 pub digit-spec : {M : Type 1} → statement M

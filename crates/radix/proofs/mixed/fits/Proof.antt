@@ -1,8 +1,7 @@
 -- x is below the product exactly if its share of the later bases is below the first base.
 use borrow.Author.Needs.{needs}
 use native.Mathlib.Omega.{arith}
-use lib.ListN.{length-drop}
-use Rattle.radix.proofs.Laws.Bases.{few, good-drop}
+use Rattle.radix.proofs.Laws.Bases.{lent-few}
 use Rattle.radix.proofs.Laws.Products.{rest-pos}
 use Rattle.radix.proofs.Laws.Places.{empty, lent-rest}
 use Rattle.radix.proofs.Laws.Shares.{fits-first}
@@ -24,8 +23,7 @@ part-weight-end c = search needs
 weight-requires : tie.Need-weight-requires
 weight-requires c κs =
     let s = c .before .before .before in
-    let b = s .args .bases .now in
-    rw (lent-rest 1 b) (omega (arith, few b (s .pre), length-drop 1 b), good-drop 1 b (s .pre))
+    lent-few 1 (s .args .bases .now) (s .pre) (omega arith) (omega arith)
 
 div-result : tie.Need-div-result
 div-result c =

@@ -5,7 +5,7 @@ use Prim.Native.Nat.{_≤_, _-_, _*_, _+_}
 use native.Mathlib.Omega.{arith}
 use lib.ListN.{length, drop, drop-of-length-le}
 use Rattle.radix.specs.Digits.{product, value}
-use Rattle.radix.proofs.Laws.Values.{valid-is, valid-length}
+use Rattle.radix.proofs.Theorems.RoundTrip.{valid-sound, length-valid}
 use Rattle.radix.proofs.Laws.Turns.{horner-on, horner-fits}
 use Rattle.radix.proofs.mixed.horner.Statement.{statement}
 use Rattle.radix.proofs.mixed.horner.Tie as tie
@@ -23,7 +23,7 @@ loop-holds : tie.Need-loop-holds Inv-loop μ-loop
 loop-holds c =
     let p = c .before .before .pre in
     let a = c .before .before .args in
-    (search needs, valid-length (valid-is (a .bases .now) (a .digits .now) (p .1)), omega arith)
+    (search needs, length-valid (valid-sound (a .bases .now) (a .digits .now) (p .1)), omega arith)
 
 mul-wide : tie.Need-mul-wide Inv-loop μ-loop
 mul-wide c = search needs

@@ -1,0 +1,187 @@
+// Numbers and digits at the edges, one line for each call. The expected lines were computed apart from this code.
+mod numbers;
+mod pairs;
+mod show;
+
+// One place.
+fn one_place() {
+    numbers::write(&[10], 0, &mut [7; 1]);
+    numbers::write(&[10], 9, &mut [7; 1]);
+    numbers::write(&[10], 10, &mut [7; 1]);
+    numbers::write(&[2], 1, &mut [7; 1]);
+    numbers::write(&[2], 2, &mut [7; 1]);
+    numbers::write(&[256], 255, &mut [7; 1]);
+    numbers::write(&[256], 256, &mut [7; 1]);
+}
+
+// Two places, three and eight.
+fn more_places() {
+    numbers::write(&[24, 60], 1439, &mut [7; 2]);
+    numbers::write(&[24, 60], 1440, &mut [7; 2]);
+    numbers::write(&[10, 10, 10], 99, &mut [7; 3]);
+    numbers::write(&[10, 10, 10], 100, &mut [7; 3]);
+    numbers::write(&[2; 8], 255, &mut [7; 8]);
+    numbers::write(&[2; 8], 256, &mut [7; 8]);
+    numbers::write(&[10; 8], 99999999, &mut [7; 8]);
+    numbers::write(&[10; 8], 100000000, &mut [7; 8]);
+}
+
+// The largest of all: its product is 2^64, which no u64 holds.
+fn largest() {
+    numbers::write(&[256; 8], 18446744073709551615, &mut [7; 8]);
+    numbers::write(&[256; 8], 72057594037927936, &mut [7; 8]);
+    numbers::write(&[256; 8], 0, &mut [7; 8]);
+    numbers::write(
+        &[256, 256, 256, 256, 256, 256, 256, 255],
+        18446744073709551615,
+        &mut [7; 8],
+    );
+}
+
+// Refused writes leave what was lent. The first check that fails answers.
+fn writes_refused() {
+    numbers::write(&[0], 0, &mut [7; 1]);
+    numbers::write(&[1], 0, &mut [7; 1]);
+    numbers::write(&[257], 0, &mut [7; 1]);
+    numbers::write(&[10, 1], 0, &mut [7; 2]);
+    numbers::write(&[2; 9], 0, &mut [7; 9]);
+    numbers::write(&[10, 10], 5, &mut [7; 1]);
+    numbers::write(&[10, 10], 5, &mut [7; 3]);
+    numbers::write(&[257], 5, &mut [7; 3]);
+    numbers::write(&[10, 10], 100, &mut [7; 3]);
+}
+
+// One digit.
+fn digits() {
+    numbers::digit(&[10], 0, 9);
+    numbers::digit(&[10], 0, 10);
+    numbers::digit(&[10, 10, 10], 0, 123);
+    numbers::digit(&[10, 10, 10], 1, 123);
+    numbers::digit(&[10, 10, 10], 2, 123);
+    numbers::digit(&[24, 60], 0, 719);
+    numbers::digit(&[24, 60], 1, 719);
+    numbers::digit(&[256; 8], 0, 18446744073709551615);
+    numbers::digit(&[256; 8], 7, 18446744073709551615);
+}
+
+// No such digit is told before a number that is too large.
+fn digits_refused() {
+    numbers::digit(&[10], 1, 9);
+    numbers::digit(&[10], 1, 10);
+    numbers::digit(&[256; 8], 8, 18446744073709551615);
+    numbers::digit(&[10, 10, 10], 18446744073709551615, 0);
+    numbers::digit(&[10, 10, 10], 2, 1000);
+    numbers::digit(&[0], 0, 0);
+    numbers::digit(&[1], 0, 0);
+    numbers::digit(&[257], 0, 0);
+    numbers::digit(&[2; 9], 0, 0);
+}
+
+// Digits read.
+fn reads() {
+    numbers::read(&[10], &[9]);
+    numbers::read(&[2], &[1]);
+    numbers::read(&[24, 60], &[23, 59]);
+    numbers::read(&[10, 10, 10], &[0, 9, 9]);
+    numbers::read(&[2; 8], &[1; 8]);
+    numbers::read(&[256], &[255]);
+    numbers::read(&[256; 8], &[255; 8]);
+    numbers::read(&[256; 8], &[0, 0, 0, 0, 0, 0, 0, 1]);
+}
+
+// A digit at its base, a digit too few or too many, bad bases.
+fn reads_refused() {
+    numbers::read(&[10], &[10]);
+    numbers::read(&[24, 60], &[24, 0]);
+    numbers::read(&[24, 60], &[23, 60]);
+    numbers::read(&[2; 8], &[1, 1, 1, 1, 1, 1, 1, 2]);
+    numbers::read(&[10, 10], &[9]);
+    numbers::read(&[10, 10], &[9, 9, 10]);
+    numbers::read(&[1], &[0]);
+    numbers::read(&[257], &[9]);
+    numbers::read(&[2; 9], &[0; 9]);
+}
+
+// Versions: the largest of four places of base 256 is 2^32 - 1.
+fn versions() {
+    numbers::write_version(256, 4, 4294967295, &mut [7; 4]);
+    numbers::version_digit(256, 4, 0, 4294967295);
+    numbers::version_digit(256, 4, 3, 4294967295);
+    numbers::read_version(256, 4, &[255; 4]);
+    numbers::write_version(10, 1, 9, &mut [7; 1]);
+    numbers::read_version(10, 1, &[9]);
+    numbers::write_version(2, 4, 15, &mut [7; 4]);
+    numbers::read_version(2, 4, &[1; 4]);
+    numbers::write_version(256, 3, 65536, &mut [7; 3]);
+}
+
+// Versions refused.
+fn versions_refused() {
+    numbers::write_version(10, 1, 10, &mut [7; 1]);
+    numbers::write_version(256, 3, 16777216, &mut [7; 3]);
+    numbers::write_version(1, 2, 0, &mut [7; 2]);
+    numbers::write_version(257, 2, 0, &mut [7; 2]);
+    numbers::write_version(10, 5, 0, &mut [7; 5]);
+    numbers::write_version(10, 2, 5, &mut [7; 3]);
+    numbers::version_digit(10, 1, 1, 9);
+    numbers::version_digit(10, 1, 0, 10);
+    numbers::version_digit(10, 5, 0, 0);
+    numbers::read_version(10, 2, &[1, 10]);
+    numbers::read_version(10, 2, &[1]);
+    numbers::read_version(10, 5, &[0; 5]);
+    numbers::read_version(0, 1, &[0]);
+}
+
+// Where two copies part.
+fn compares() {
+    pairs::compare(&[0, 0, 0], &[1, 0, 0]);
+    pairs::compare(&[0, 9, 9], &[1, 9, 9]);
+    pairs::compare(&[1, 2, 0], &[1, 2, 9]);
+    pairs::compare(&[1, 0, 0], &[0, 9, 9]);
+    pairs::compare(&[1, 2, 3], &[1, 2, 3]);
+    pairs::compare(&[5], &[7]);
+    pairs::compare(
+        &[255, 255, 255, 255, 255, 255, 255, 0],
+        &[255, 255, 255, 255, 255, 255, 255, 1],
+    );
+    pairs::compare(&[1], &[1, 0]);
+}
+
+// What two copies allow.
+fn ends() {
+    pairs::ends(&[10, 10, 10], &[0, 0, 0], &[1, 0, 0]);
+    pairs::ends(&[10, 10, 10], &[0, 9, 9], &[1, 9, 9]);
+    pairs::ends(&[24, 60], &[11, 57], &[12, 4]);
+    pairs::ends(&[24, 60], &[11, 57], &[11, 59]);
+    pairs::ends(&[24, 60], &[11, 57], &[11, 57]);
+    pairs::ends(&[24, 60], &[12, 4], &[11, 57]);
+    pairs::ends(&[10], &[5], &[7]);
+    pairs::ends(&[256; 8], &[0; 8], &[255, 0, 0, 0, 0, 0, 0, 0]);
+    pairs::ends(&[256; 8], &[255; 8], &[255; 8]);
+}
+
+// Bad bases, wrong lengths, a digit at its base in either copy.
+fn ends_refused() {
+    pairs::ends(&[257], &[0], &[1]);
+    pairs::ends(&[2; 9], &[0; 9], &[1; 9]);
+    pairs::ends(&[10, 10], &[1], &[1, 2]);
+    pairs::ends(&[10, 10], &[1, 1], &[1, 2, 3]);
+    pairs::ends(&[24, 60], &[24, 0], &[23, 0]);
+    pairs::ends(&[24, 60], &[11, 57], &[11, 60]);
+}
+
+fn main() {
+    one_place();
+    more_places();
+    largest();
+    writes_refused();
+    digits();
+    digits_refused();
+    reads();
+    reads_refused();
+    versions();
+    versions_refused();
+    compares();
+    ends();
+    ends_refused();
+}

@@ -1,0 +1,87 @@
+// One line for a call on a count or a version.
+use crate::show;
+use radix::Count;
+use radix::CountRead;
+use radix::Version;
+use radix::VersionRead;
+
+pub fn write(bases: &[u16], x: u64, out: &mut [u8]) {
+    show::say(b"write ");
+    show::tell(x);
+    show::say(b" over");
+    show::bases(bases);
+    show::say(b":");
+    let w = radix::counts::write(bases, Count(x), out);
+    show::written(w, out);
+}
+
+pub fn digit(bases: &[u16], k: usize, x: u64) {
+    show::say(b"digit ");
+    show::tell(k as u64);
+    show::say(b" of ");
+    show::tell(x);
+    show::say(b" over");
+    show::bases(bases);
+    show::say(b":");
+    show::digit(radix::counts::digit(bases, k, Count(x)));
+    show::say(b"\n");
+}
+
+pub fn read(bases: &[u16], digits: &[u8]) {
+    show::say(b"read");
+    show::bytes(digits);
+    show::say(b" over");
+    show::bases(bases);
+    show::say(b":");
+    let r = radix::counts::read(bases, digits);
+    match r {
+        CountRead::Is(c) => {
+            show::say(b" ");
+            show::tell(c.0);
+        }
+        CountRead::Refused(why) => show::refused(why),
+    }
+    show::say(b"\n");
+}
+
+// q places of one base.
+fn places(base: u16, q: usize) {
+    show::say(b" in ");
+    show::tell(q as u64);
+    show::say(b" places of base ");
+    show::tell(base as u64);
+    show::say(b":");
+}
+
+pub fn write_version(base: u16, q: usize, v: u32, out: &mut [u8]) {
+    show::say(b"write version ");
+    show::tell(v as u64);
+    places(base, q);
+    let w = radix::versions::write(base, q, Version(v), out);
+    show::written(w, out);
+}
+
+pub fn version_digit(base: u16, q: usize, k: usize, v: u32) {
+    show::say(b"digit ");
+    show::tell(k as u64);
+    show::say(b" of version ");
+    show::tell(v as u64);
+    places(base, q);
+    show::digit(radix::versions::digit(base, q, k, Version(v)));
+    show::say(b"\n");
+}
+
+pub fn read_version(base: u16, q: usize, digits: &[u8]) {
+    show::say(b"read version");
+    show::bytes(digits);
+    places(base, q);
+    let r = radix::versions::read(base, q, digits);
+    match r {
+        VersionRead::Is(v) => {
+            show::say(b" ");
+            show::tell(v.0 as u64);
+        }
+        VersionRead::Refused(why) => show::refused(why),
+    }
+    show::say(b"\n");
+}
