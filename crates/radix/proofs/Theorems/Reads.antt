@@ -40,7 +40,9 @@ pub record Down (bs : List ℕ) (i : ℕ → ℕ) (lo : ℕ) : Type 0 where
   pub step : (k : ℕ) → suc k < length bs → i (suc k) ≤ i k
   pub end : (k : ℕ) → k < length bs → lo ≤ i k
 
-rising : (bs : List ℕ) (i : ℕ → ℕ) (lo hi : ℕ) → lo ≤ hi → (0 < length bs → lo ≤ i 0) → Up bs i hi → Rising bs lo (seen bs i) hi
+rising :
+    (bs : List ℕ) (i : ℕ → ℕ) (lo hi : ℕ) → lo ≤ hi → (0 < length bs → lo ≤ i 0) → Up bs i hi →
+    Rising bs lo (seen bs i) hi
 unfolding seen
 rising [] i lo hi m l u = Rising.none m
 rising (b ∷ bs) i lo hi m l u =
@@ -48,7 +50,9 @@ rising (b ∷ bs) i lo hi m l u =
     (rising bs (λ k. i (suc k)) (i 0) hi (u .end 0 (omega arith)) (λ g. u .step 0 (omega arith))
     (record { step = λ k g. u .step (suc k) (omega arith); end = λ k g. u .end (suc k) (omega arith) }))
 
-falling : (bs : List ℕ) (i : ℕ → ℕ) (hi lo : ℕ) → lo ≤ hi → (0 < length bs → i 0 ≤ hi) → Down bs i lo → Falling bs hi (seen bs i) lo
+falling :
+    (bs : List ℕ) (i : ℕ → ℕ) (hi lo : ℕ) → lo ≤ hi → (0 < length bs → i 0 ≤ hi) → Down bs i lo →
+    Falling bs hi (seen bs i) lo
 unfolding seen
 falling [] i hi lo m l u = Falling.none m
 falling (b ∷ bs) i hi lo m l u =
@@ -63,14 +67,15 @@ reads-below bs a i hi r u =
     (gathered-below {lo = 0} (rising bs i 0 hi (omega arith) (λ g. omega arith) u))
 
 pub reads-above :
-    (bs a : List ℕ) (i : ℕ → ℕ) (lo : ℕ) → 0 < length bs → i 0 < product bs → Reads bs a i → Down bs i lo → lo ≤ value bs a
+    (bs a : List ℕ) (i : ℕ → ℕ) (lo : ℕ) → 0 < length bs → i 0 < product bs → Reads bs a i → Down bs i lo →
+    lo ≤ value bs a
 reads-above bs a i lo pos h r u =
     rw (gathers bs a i (r .size) (r .each)) at
     (gathered-above h (falling bs i (i 0) lo (u .end 0 pos) (λ g. le-refl (i 0)) u))
 
 pub span-reads :
-    (bs a b : List ℕ) (i j : ℕ → ℕ) (mid : ℕ) → Reads bs a i → Up bs i mid → Reads bs b j → Down bs j mid → 0 < length bs →
-    j 0 < product bs → Spans bs (i 0) mid (j 0) a b (compare a b)
+    (bs a b : List ℕ) (i j : ℕ → ℕ) (mid : ℕ) → Reads bs a i → Up bs i mid → Reads bs b j → Down bs j mid →
+    0 < length bs → j 0 < product bs → Spans bs (i 0) mid (j 0) a b (compare a b)
 span-reads bs a b i j mid ra ua rb ub pos small =
     subst₂ (λ (x y : List ℕ). Spans bs (i 0) mid (j 0) x y (compare x y)) (gathers bs a i (ra .size) (ra .each))
     (gathers bs b j (rb .size) (rb .each))

@@ -1,0 +1,105 @@
+-- ONE COMMAND keeps the invariant, or is refused mildly.
+use mathlib.Core.Path.{subst}
+use mathlib.Core.List.{List}
+use mathlib.Core.Bool.{_||_}
+use Prim.Native.Nat.{ℕ, _<_}
+use native.Mathlib.Omega.{arith}
+use lib.Dec.{eqb, leb}
+use lib.ListN.{getD}
+use borrow.Author.Tests.{leb-false, eqb-false}
+use Rattle.radix.specs.declared.Count.{Count}
+use Rattle.protocol.specs.Form.{Form}
+use Rattle.protocol.specs.State.{Reading, idle, ofCount, ofRecord, State, readingOf, bufferOf, busyReading}
+use Rattle.protocol.specs.Step.{nextPosition, gather, onGathered, carry}
+use Rattle.protocol.specs.Run.{Event}
+use Rattle.protocol.specs.History.{Read, History, readerSteps, carried}
+use Rattle.protocol.specs.Demand.{Agree}
+use Rattle.protocol.specs.declared.Command.{Command}
+use Rattle.protocol.specs.declared.Command.the-variants.{
+  WriteCount,
+  WriteRecord,
+  WriterStep,
+  BeginCountRead,
+  BeginRecordRead,
+  ReaderStep,
+  Cancel,
+}
+use Rattle.protocol.specs.declared.Ending.the-variants.{Refused}
+use Rattle.protocol.specs.declared.Refusal.the-variants.{Busy, NothingPending, NoSuch}
+use Rattle.protocol.proofs.Lists.Cases.{by-cond, neither}
+use Rattle.protocol.proofs.Counts.Part.{CRel}
+use Rattle.protocol.proofs.Records.Phase.{RRel}
+use Rattle.protocol.proofs.Commands.Invariant.{Proper, Inv, GoesTo, Goes, mild}
+use Rattle.protocol.proofs.Commands.Writer.{begins-count, begins-record}
+use Rattle.protocol.proofs.Commands.WriterStep.{steps-writer}
+use Rattle.protocol.proofs.Commands.Reader.{countAt, recordsAt, begins-count-read, begins-record-read, cancels}
+use Rattle.protocol.proofs.Commands.CountStep.{steps-count}
+use Rattle.protocol.proofs.Commands.AttemptStep.{steps-attempt}
+
+module _ (F : Form) (x : Count) (r₀ S : List ℕ) (ok : Proper F r₀) (tale : List Event) (σ : State) (h : History)
+    (inv : Inv F x r₀ S tale σ h) where
+  -- a reader's step, by what it is reading
+  steps-reader :
+      (r : ℕ) → r < F .readers → (st : Reading) (rd : Read) → Agree F st rd →
+      CRel F x (h .now) (countAt x h) (h .counts) st rd →
+      RRel F r₀ (h .now) (recordsAt r₀ h) (h .records) (inv .marks) r st rd (bufferOf σ r) →
+      GoesTo F x r₀ S tale (λ acc. readerSteps F h r acc rd)
+      (onGathered σ r (gather F r (getD (σ .page) (nextPosition F st) 0) st (bufferOf σ r)))
+  unfolding gather onGathered
+  steps-reader r reader idle rd agree c k = mild F S (Refused NothingPending) (omega arith) (omega arith)
+  steps-reader r reader (ofCount ds) Read.none agree c k = absurd agree
+  steps-reader r reader (ofCount ds) (Read.ofCount ts) agree c k =
+      steps-count F x r₀ S ok tale σ h inv r reader ds ts c (agree .1)
+  steps-reader r reader (ofCount ds) (Read.ofRecord a es ts) agree c k = absurd agree
+  steps-reader r reader (ofRecord a f s ds) Read.none agree c k = absurd agree
+  steps-reader r reader (ofRecord a f s ds) (Read.ofCount ts) agree c k = absurd agree
+  steps-reader r reader (ofRecord a f s ds) (Read.ofRecord b es ts) agree c k =
+      subst
+      (λ (b : ℕ).
+      GoesTo F x r₀ S tale (λ acc. readerSteps F h r acc (Read.ofRecord b es ts))
+      (onGathered σ r
+      (gather F r (getD (σ .page) (nextPosition F (ofRecord a f s ds)) 0) (ofRecord a f s ds) (bufferOf σ r))))
+      (agree .0)
+      (steps-attempt F x r₀ S ok tale σ h inv r reader a f s ds es ts k (agree .3) (agree .1) (agree .4))
+
+  pub one-command : (c : Command) → Goes F x r₀ S tale h c (carry F S σ c)
+  unfolding carry carried
+  one-command (WriteCount c) =
+      begins-count F x r₀ S ok tale (σ .page) (σ .readings) (σ .buffers) (h .now) (h .counts) (h .records) (h .reads)
+      (h .countReads) (h .attempts) (σ .writing) (h .pending) c inv (inv .writer)
+  one-command (WriteRecord i) =
+      begins-record F x r₀ S ok tale (σ .page) (σ .readings) (σ .buffers) (h .now) (h .counts) (h .records) (h .reads)
+      (h .countReads) (h .attempts) (σ .writing) (h .pending) i inv (inv .writer)
+  one-command WriterStep =
+      steps-writer F x r₀ S ok tale (σ .page) (σ .readings) (σ .buffers) (h .now) (h .reads) (h .countReads)
+      (h .attempts) (σ .writing) (h .pending) (h .counts) (h .records) inv (inv .writer)
+  one-command (BeginCountRead r) =
+      by-cond (Goes F x r₀ S tale h (BeginCountRead r)) (leb (F .readers) r)
+      (λ a. mild F S (Refused NoSuch) (omega arith) (omega arith))
+      (λ a.
+      by-cond (Goes F x r₀ S tale h (BeginCountRead r)) (busyReading (readingOf σ r))
+      (λ b. mild F S (Refused Busy) (omega arith) (omega arith))
+      (λ b. begins-count-read F x r₀ S ok tale σ h inv r (leb-false (F .readers) r a)))
+  one-command (BeginRecordRead r allowed) =
+      by-cond (Goes F x r₀ S tale h (BeginRecordRead r allowed)) (leb (F .readers) r || eqb allowed 0)
+      (λ a. mild F S (Refused NoSuch) (omega arith) (omega arith))
+      (λ a.
+      let (there, some) = neither (leb (F .readers) r) (eqb allowed 0) a in
+      by-cond (Goes F x r₀ S tale h (BeginRecordRead r allowed)) (busyReading (readingOf σ r))
+      (λ b. mild F S (Refused Busy) (omega arith) (omega arith))
+      (λ b.
+      begins-record-read F x r₀ S ok tale σ h inv r (leb-false (F .readers) r there) allowed
+      (omega (arith, eqb-false allowed 0 some))))
+  one-command (ReaderStep r) =
+      by-cond (Goes F x r₀ S tale h (ReaderStep r)) (leb (F .readers) r)
+      (λ a. mild F S (Refused NoSuch) (omega arith) (omega arith))
+      (λ a.
+      steps-reader r (leb-false (F .readers) r a) (readingOf σ r) (getD (h .reads) r Read.none) (inv .readers r)
+      (inv .counts .each r) (inv .records .each r))
+  one-command (Cancel r) =
+      by-cond (Goes F x r₀ S tale h (Cancel r)) (leb (F .readers) r)
+      (λ a. mild F S (Refused NoSuch) (omega arith) (omega arith))
+      (λ a.
+      by-cond (Goes F x r₀ S tale h (Cancel r)) (busyReading (readingOf σ r))
+      (λ b. cancels F x r₀ S ok tale σ h inv r (leb-false (F .readers) r a))
+      (λ b. mild F S (Refused NothingPending) (omega arith) (omega arith)))

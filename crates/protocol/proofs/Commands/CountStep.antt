@@ -1,0 +1,122 @@
+-- A step of a count read.
+use mathlib.Core.Path.{_≡_, refl, ap}
+use mathlib.Core.Logic.{inl, inr}
+use mathlib.Core.List.{List, _∷_}
+use Prim.Native.Nat.{ℕ, suc, _≤_, _<_}
+use native.Mathlib.Nat.{le-refl}
+use native.Mathlib.Omega.{arith}
+use lib.Dec.{ltb}
+use lib.ListN.{length, getD}
+use borrow.Author.Tests.{eq-eqb, ne-eqb, ltb-true, ltb-false}
+use Rattle.radix.specs.declared.Count.{Count}
+use Rattle.radix.specs.declared.Comparison.{Comparison}
+use Rattle.radix.specs.declared.Comparison.the-variants.{Equal, Parted, Crossed}
+use Rattle.radix.specs.Digits.{value}
+use Rattle.radix.specs.Copies.{compare}
+use Rattle.protocol.specs.Form.{Form, m, countSteps}
+use Rattle.protocol.specs.Layout.{countReadOrder}
+use Rattle.protocol.specs.State.{idle, ofCount, State, bufferOf}
+use Rattle.protocol.specs.Outcome.{isAccepted}
+use Rattle.protocol.specs.Step.{Gathered, copyA, copyB, shows, endCount, gather, onGathered}
+use Rattle.protocol.specs.Run.{Event}
+use Rattle.protocol.specs.History.{Read, CountRead, History, readerSteps}
+use Rattle.protocol.specs.Demand.{firstOf, lastOf, writtenBefore, begunBefore, latest}
+use Rattle.protocol.specs.declared.Outcome.{Outcome}
+use Rattle.protocol.specs.declared.Outcome.the-variants.{Shown}
+use Rattle.protocol.proofs.Lists.Cases.{by-cond}
+use Rattle.protocol.proofs.Items.Times.{desc-now, first-le}
+use Rattle.protocol.proofs.Counts.Span.{Within}
+use Rattle.protocol.proofs.Counts.Part.{Counting, gathers, finish, count-kept, count-reader}
+use Rattle.protocol.proofs.Records.Finish.{outcome-new}
+use Rattle.protocol.proofs.Commands.Invariant.{countBusy, Proper, Inv, GoesTo}
+use Rattle.protocol.proofs.Commands.Reader.{
+  countAt,
+  event,
+  at-readings,
+  at-reads,
+  reader-inv,
+  records-on,
+  goes-on,
+}
+
+module _ (F : Form) (x : Count) (r₀ S : List ℕ) (ok : Proper F r₀) (tale : List Event) (σ : State) (h : History)
+    (inv : Inv F x r₀ S tale σ h) (r : ℕ) (reader : r < F .readers) (ds ts : List ℕ)
+    (counting : Counting F x (h .now) (countAt x h) (h .counts) ds ts) (few : length ds < countSteps F) where
+  abbrev buffer : List ℕ
+  buffer = bufferOf σ r
+
+  abbrev ds′ : List ℕ
+  ds′ = getD (σ .page) (getD (countReadOrder F) (length ds) 0) 0 ∷ ds
+
+  abbrev us : List ℕ
+  us = suc (h .now) ∷ ts
+
+  -- what follows from what it gathered
+  abbrev Comes : Gathered → Type 0
+  Comes g = GoesTo F x r₀ S tale (λ acc. readerSteps F h r acc (Read.ofCount ts)) (onGathered σ r g)
+
+  more : Counting F x (suc (h .now)) (countAt x h) (h .counts) ds′ us
+  more =
+      gathers F x (ok .places) (h .now) (countBusy (h .pending)) (h .counts) (inv .counts .fit) (σ .page) ds ts
+      (inv .counts .holds) counting few
+
+  abbrev low : ℕ
+  low = latest (writtenBefore (countSteps F) (firstOf us)) x (h .counts) .0
+
+  abbrev high : ℕ
+  high = latest (begunBefore (lastOf us)) x (h .counts) .0
+
+  module _ (full : suc (length ds) ≡ countSteps F) where
+    shows-within : (c : ℕ) → low ≤ c → c ≤ high → Comes (shows r buffer c)
+    unfolding onGathered readerSteps isAccepted
+    shows-within c l g =
+        let o : Outcome = Shown r (record { 0 = c }) in
+        let y : CountRead = record { reader = r; steps = us } in
+        let e : Event = event σ r idle buffer o in
+        rw (eq-eqb (suc (length ts)) (countSteps F) (omega (arith, counting .same)))
+        (reader-inv F x r₀ S ok tale σ h inv r reader o idle Read.none buffer (y ∷ h .countReads) (h .attempts)
+        (inv .marks) tt (record { reads = λ i t q. inr q; attempts = λ i t q. q }) (inl (refl, refl))
+        (count-reader F x (ok .places) tale (h .now) (σ .page) (countBusy (h .pending)) (h .counts) (σ .readings)
+        (h .reads) (h .countReads) (inv .counts) e (inv .time) r idle Read.none (y ∷ h .countReads)
+        (at-readings F x r₀ S ok tale σ h inv r reader) (at-reads F x r₀ S ok tale σ h inv r reader) tt (
+          record {
+            span = record {
+              shown = record { 0 = c };
+              ends = outcome-new tale (h .now) (inv .time) e;
+              low = l;
+              high = g;
+            };
+            begins = first-le (desc-now (counting .desc));
+            ends = (omega arith, le-refl _);
+          },
+          count-kept F x (ok .places) tale (h .now) (σ .page) (countBusy (h .pending)) (h .counts) (σ .readings)
+              (h .reads) (h .countReads) (inv .counts) e (inv .time),
+        ))
+        (records-on F x r₀ S ok tale σ h inv r reader o idle Read.none buffer (inv .records .buffered r reader) tt))
+
+    -- the copies are not crossed
+    ends-count :
+        (c : Comparison) → Within (F .bases) low high (copyA (m F) ds′) (copyB (m F) ds′) c →
+        Comes (endCount F r buffer (copyA (m F) ds′) (copyB (m F) ds′) c)
+    unfolding endCount
+    ends-count Equal w = shows-within (value (F .bases) (copyA (m F) ds′)) (w .0) (w .1)
+    ends-count (Parted p) w = shows-within _ (omega (arith, w .0, w .1)) (w .2)
+    ends-count Crossed w = absurd w
+
+  pub steps-count :
+      GoesTo F x r₀ S tale (λ acc. readerSteps F h r acc (Read.ofCount ts))
+      (onGathered σ r
+      (gather F r (getD (σ .page) (getD (countReadOrder F) (length ds) 0) 0) (ofCount ds) (bufferOf σ r)))
+  unfolding gather onGathered readerSteps isAccepted
+  steps-count =
+      by-cond Comes (ltb (suc (length ds)) (countSteps F))
+      (λ a.
+      let l : suc (length ds) < countSteps F = ltb-true (suc (length ds)) (countSteps F) a in
+      rw (ne-eqb (suc (length ts)) (countSteps F) (omega (arith, counting .same)))
+      (goes-on F x r₀ S ok tale σ h inv r reader (ofCount ds′) (Read.ofCount us) buffer (ap suc (counting .same), l)
+      (inv .records .buffered r reader) more tt))
+      (λ a.
+      let full : suc (length ds) ≡ countSteps F = omega (arith, ltb-false (suc (length ds)) (countSteps F) a) in
+      ends-count full (compare (copyA (m F) ds′) (copyB (m F) ds′))
+      (finish F x (ok .places) (h .now) (countBusy (h .pending)) (h .counts) (inv .counts .fit) ds′ us more full refl
+      (inv .counts .below)))

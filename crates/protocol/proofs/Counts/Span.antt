@@ -1,0 +1,72 @@
+-- One whole count read: from what it saw at each position, the span of the count that it shows.
+use mathlib.Core.Path.{_≡_, _∙_}
+use mathlib.Core.List.{List}
+use Prim.Native.Nat.{ℕ, suc, _+_, _-_, _≤_, _<_}
+use native.Mathlib.Nat.{le-trans, zero-add}
+use native.Mathlib.Omega.{arith}
+use lib.ListN.{length, drop, length-take, length-drop, length-reverse}
+use lib.Seq.{getD-take, getD-drop}
+use Rattle.radix.specs.Digits.{product, value}
+use Rattle.radix.specs.Copies.{compare, lowEnd, highEnd}
+use Rattle.radix.specs.declared.Comparison.{Comparison}
+use Rattle.radix.specs.declared.Comparison.the-variants.{Equal, Parted, Crossed}
+use Rattle.radix.proofs.Theorems.Span.{Spans}
+use Rattle.radix.proofs.Theorems.Reads.{Reads, Up, Down, span-reads}
+use Rattle.protocol.specs.Form.{Form, m, countSteps}
+use Rattle.protocol.specs.Layout.{countDigits}
+use Rattle.protocol.specs.Step.{copyA, copyB}
+use Rattle.protocol.proofs.Lists.Places.{getD-reverse}
+use Rattle.protocol.proofs.Positions.Counts.{countDigitLow, countDigitHigh}
+use Rattle.protocol.proofs.Items.Seen.{Fell, seen, seen-digit, seen-hi, seen-lo, seen-falls}
+
+-- both ends lie between lo and hi, and the copies are not crossed
+abbrev pub Within : (bs : List ℕ) (lo hi : ℕ) (a b : List ℕ) → Comparison → Type 0
+Within bs lo hi a b Equal = (lo ≤ value bs a) × (value bs a ≤ hi)
+Within bs lo hi a b (Parted p) = (lo ≤ lowEnd bs p a) × (lowEnd bs p a < highEnd bs p b) × (highEnd bs p b ≤ hi)
+Within bs lo hi a b Crossed = ⊥
+
+widen :
+    (bs : List ℕ) (lo lo′ mid hi hi′ : ℕ) (a b : List ℕ) (c : Comparison) → lo′ ≤ lo → hi ≤ hi′ →
+    Spans bs lo mid hi a b c → Within bs lo′ hi′ a b c
+widen bs lo lo′ mid hi hi′ a b Equal h g s = (omega (arith, s .shown, s .from-lo), omega (arith, s .shown, s .to-hi))
+widen bs lo lo′ mid hi hi′ a b (Parted p) h g s = (le-trans h (s .from-lo), s .low-high, le-trans (s .to-hi) g)
+widen bs lo lo′ mid hi hi′ a b Crossed h g s = s
+
+module _ (F : Form) (pos : 0 < m F) where
+  pub spanned :
+      (ds : List ℕ) (lo hi : ℕ) → Fell (countDigits F) 0 ds lo hi → length ds ≡ countSteps F → hi < product (F .bases) →
+      Within (F .bases) lo hi (copyA (m F) ds) (copyB (m F) ds) (compare (copyA (m F) ds) (copyB (m F) ds))
+  spanned ds lo hi f size below =
+      widen (F .bases) (seen f (m F + (m F - 1))) lo (seen f (m F)) (seen f 0) hi (copyA (m F) ds) (copyB (m F) ds)
+      (compare (copyA (m F) ds) (copyB (m F) ds)) (seen-lo f (m F + (m F - 1))) (seen-hi f 0)
+      (span-reads (F .bases) (copyA (m F) ds) (copyB (m F) ds) (λ k. seen f (m F + (m F - suc k))) (λ k. seen f k)
+      (seen f (m F)) readA upA readB downB pos (omega (arith, seen-hi f 0)))
+    where
+      readA : Reads (F .bases) (copyA (m F) ds) (λ k. seen f (m F + (m F - suc k)))
+      readA = record {
+        size = length-reverse (drop (m F) ds) ∙ length-drop (m F) ds ∙ omega arith;
+        each = λ k h.
+            getD-reverse (drop (m F) ds) 0 k (m F - suc k) (omega (arith, length-drop (m F) ds))
+            ∙ getD-drop (m F) ds (m F - suc k) 0
+            ∙ seen-digit f (m F + (m F - suc k)) (omega arith)
+            ∙ rw zero-add (countDigitHigh F (seen f (m F + (m F - suc k))) (m F - suc k) k (omega arith));
+      }
+
+      upA : Up (F .bases) (λ k. seen f (m F + (m F - suc k))) (seen f (m F))
+      upA = record {
+        step = λ k h. seen-falls f (m F + (m F - suc (suc k))) (m F + (m F - suc k)) (omega arith);
+        end = λ k h. seen-falls f (m F) (m F + (m F - suc k)) (omega arith);
+      }
+
+      readB : Reads (F .bases) (copyB (m F) ds) (λ k. seen f k)
+      readB = record {
+        size = length-take (m F) ds ∙ omega arith;
+        each = λ k h.
+            getD-take (m F) ds k 0 h ∙ seen-digit f k (omega arith) ∙ rw zero-add (countDigitLow F (seen f k) k h);
+      }
+
+      downB : Down (F .bases) (λ k. seen f k) (seen f (m F))
+      downB = record {
+        step = λ k h. seen-falls f k (suc k) (omega arith);
+        end = λ k h. seen-falls f k (m F) (omega arith);
+      }

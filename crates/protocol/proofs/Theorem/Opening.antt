@@ -1,0 +1,115 @@
+-- An accepted opening: what it checked, and the invariant that it leaves.
+use mathlib.Core.Path.{_≡_, refl, sym, ap, _∙_}
+use mathlib.Core.Logic.{inl, inr}
+use mathlib.Core.List.{List, []}
+use mathlib.Core.Bool.{true, not, _&&_}
+use Prim.Native.Nat.{ℕ, _<_}
+use native.Mathlib.Omega.{arith}
+use lib.Dec.{eqb, leb}
+use lib.ListN.{length, getD, length-replicate}
+use borrow.Author.Tests.{eqb-true, leb-false, not-false}
+use Rattle.radix.specs.declared.Count.{Count}
+use Rattle.radix.specs.Digits.{product}
+use Rattle.protocol.specs.Form.{Form, goodForm, countSteps}
+use Rattle.protocol.specs.Layout.{countOrder, countDigits}
+use Rattle.protocol.specs.State.{idle, opened}
+use Rattle.protocol.specs.Memory.{Memory, stored, goodLengths}
+use Rattle.protocol.specs.Run.{openPage, Ran}
+use Rattle.protocol.specs.History.{Read, fresh}
+use Rattle.protocol.specs.declared.Ending.the-variants.{Finished}
+use Rattle.protocol.proofs.Lists.Cases.{by-cond, both}
+use Rattle.protocol.proofs.Lists.Places.{getD-all}
+use Rattle.protocol.proofs.Positions.Counts.{CountAt, countAt, countDigitLow}
+use Rattle.protocol.proofs.Positions.Steps.{digit-high}
+use Rattle.protocol.proofs.Positions.Opened.{P, opened-first, opened-second}
+use Rattle.protocol.proofs.Items.Seen.{Holds}
+use Rattle.protocol.proofs.InRange.{in-range}
+use Rattle.protocol.proofs.Allowed.Opened.{opened-kept}
+use Rattle.protocol.proofs.Records.Start.{record-start}
+use Rattle.protocol.proofs.Commands.Invariant.{Proper, Inv}
+use Rattle.protocol.proofs.Theorem.Runs.{Held}
+
+-- what an accepted opening checked, and the memory that it leaves
+pub record Opens (F : Form) (c : Count) (r₀ : List ℕ) (L : Memory) : Type 0 where
+  pub good : goodForm F ≡ true
+  pub size : length r₀ ≡ F .n
+  pub low : c .0 < product (F .bases)
+  pub memory : L ≡ stored F (opened F c r₀)
+
+pub opens :
+    (F : Form) (L : Memory) (c : Count) (r₀ : List ℕ) → openPage F L c r₀ .ending ≡ Finished →
+    Opens F c r₀ (openPage F L c r₀ .memory)
+unfolding openPage
+opens F L c r₀ =
+    let P : Ran → Type 0 = λ o. o .ending ≡ Finished → Opens F c r₀ (o .memory) in
+    by-cond P (not (goodForm F))
+    (λ a e. absurd (let z : _≡_ {A = ℕ} 0 1 = cc in omega arith))
+    (λ a.
+    by-cond P (not (goodLengths F L && eqb (length r₀) (F .n)))
+    (λ b e. absurd (let z : _≡_ {A = ℕ} 0 1 = cc in omega arith))
+    (λ b.
+    by-cond P (leb (product (F .bases)) (c .0))
+    (λ d e. absurd (let z : _≡_ {A = ℕ} 0 1 = cc in omega arith))
+    (λ d e.
+    let lengths = both (goodLengths F L) (eqb (length r₀) (F .n)) (not-false _ b) in
+    record {
+      good = not-false (goodForm F) a;
+      size = eqb-true (length r₀) (F .n) (lengths .1);
+      low = leb-false (product (F .bases)) (c .0) d;
+      memory = refl;
+    })))
+
+pub proper : (F : Form) (r₀ : List ℕ) → goodForm F ≡ true → length r₀ ≡ F .n → Proper F r₀
+proper F r₀ good size =
+    let range = in-range F good in
+    record {
+      places = range .places .0;
+      versions = range .versions .0;
+      bytes = range .bytes .0;
+      size = size;
+      room = range .some-version;
+    }
+
+module _ (F : Form) (c : Count) (r₀ S : List ℕ) (good : goodForm F ≡ true) (size₀ : length r₀ ≡ F .n)
+    (low : c .0 < product (F .bases)) where
+  abbrev page : List ℕ
+  page = P F (c .0) r₀
+
+  holds-count : Holds (countSteps F) (countOrder F) (countDigits F) page (λ k. c .0)
+  holds-count k h = go (countAt F k h)
+    where
+      go : CountAt F k → getD page (getD (countOrder F) k 0) 0 ≡ getD (countDigits F (c .0)) k 0
+      go (inl a) =
+          ap (λ i. getD page i 0) (a .1) ∙ opened-second F (c .0) r₀ k (a .0) ∙ sym (countDigitLow F (c .0) k (a .0))
+      go (inr a) =
+          opened-first F (c .0) r₀ (getD (countOrder F) k 0) (omega arith)
+          ∙ sym (digit-high F (c .0) k (getD (countOrder F) k 0) (a .0) (a .1))
+
+  opened-inv : Inv F c r₀ S [] (opened F c r₀) (fresh F)
+  unfolding opened fresh
+  opened-inv =
+      let sized = opened-kept F S c r₀ good size₀ low .0 in
+      record {
+        time = refl;
+        pageSize = sized .page;
+        readingsSize = sized .readings;
+        buffersSize = sized .buffers;
+        readsSize = length-replicate (F .readers) Read.none;
+        writer = tt;
+        readers = λ r. rw (getD-all (F .readers) r idle, getD-all (F .readers) r Read.none) tt;
+        explained = λ t a b. absurd (omega arith);
+        counts = record {
+          fit = tt;
+          below = (low, tt);
+          holds = holds-count;
+          each = λ r. rw (getD-all (F .readers) r idle) tt;
+          dones = tt;
+        };
+        marks = [];
+        records = record-start F c r₀ size₀;
+      }
+
+  pub opened-held : (L : Memory) → L ≡ stored F (opened F c r₀) → Held F c r₀ S [] L (fresh F)
+  opened-held L e =
+      let k = opened-kept F S c r₀ good size₀ low in
+      record { state = opened F c r₀; memory = e; sized = k .0; fine = k .1; inv = opened-inv }

@@ -1,0 +1,71 @@
+-- Document 01's starred edges, one row each. A row speaks of the definitions that the contracts cite.
+use mathlib.Core.Path.{_≡_}
+use mathlib.Core.List.{List, [], _∷_}
+use Prim.Native.Nat.{ℕ, _-_, _^_}
+use lib.ListN.{replicate}
+use Rattle.radix.specs.Digits.{digits}
+use Rattle.radix.specs.Copies.{compare}
+use Rattle.radix.specs.Answers.{digitOf}
+use Rattle.radix.specs.declared.Fault.the-variants.{TooLarge}
+use Rattle.radix.specs.declared.Digit.{Digit}
+use Rattle.protocol.specs.Form.{Form}
+use Rattle.protocol.specs.State.{resting, aRecord, idle, State, withWriting}
+use Rattle.protocol.specs.Step.{refused, done, Gathered, shows, endCount, carry}
+use Rattle.protocol.specs.Outcome.{refusalNumber}
+use Rattle.protocol.specs.declared.Command.the-variants.{WriteCount, WriteRecord}
+use Rattle.protocol.specs.declared.Outcome.the-variants.{Nothing}
+use Rattle.protocol.specs.declared.Refusal.the-variants.{CountTooLarge, VersionsExhausted, CopiesCrossed}
+
+-- version base 10 with one place, records of one byte, one reader
+abbrev pub withBases : List ℕ → Form
+withBases bs = record { bases = bs; q = 1; base = 10; n = 1; readers = 1 }
+
+abbrev pub decimal : Form
+decimal = withBases (10 ∷ 10 ∷ 10 ∷ [])
+
+abbrev pub clock : Form
+clock = withBases (24 ∷ 60 ∷ [])
+
+abbrev pub single : Form
+single = withBases (10 ∷ [])
+
+-- the end of a count read that gathered the copies a and b
+abbrev pub countEnd : Form → List ℕ → List ℕ → Gathered
+countEnd F a b = endCount F 0 (0 ∷ []) a b (compare a b)
+
+-- it shows the count x
+abbrev pub ShowsCount : Form → List ℕ → List ℕ → ℕ → Type 0
+ShowsCount F a b x = countEnd F a b ≡ shows 0 (0 ∷ []) x
+
+-- the writer rests, and the versions stand at v
+abbrev pub versionsAt : ℕ → State
+versionsAt v = record {
+  page = 0 ∷ 0 ∷ v ∷ 0 ∷ v ∷ [];
+  writing = resting;
+  readings = idle ∷ [];
+  buffers = (0 ∷ []) ∷ [];
+}
+
+pub record Table : Type 0 where
+  pub turning : ShowsCount decimal (0 ∷ 0 ∷ 0 ∷ []) (1 ∷ 0 ∷ 0 ∷ []) 100
+  pub nines : ShowsCount decimal (0 ∷ 9 ∷ 9 ∷ []) (1 ∷ 9 ∷ 9 ∷ []) 100
+  -- 11:57 and 12:04 show 12:00; 11:59; the equal ones themselves
+  pub hour : ShowsCount clock (11 ∷ 57 ∷ []) (12 ∷ 4 ∷ []) 720
+  pub minute : ShowsCount clock (11 ∷ 57 ∷ []) (11 ∷ 59 ∷ []) 719
+  pub equal : ShowsCount clock (11 ∷ 57 ∷ []) (11 ∷ 57 ∷ []) 717
+  pub crossed :
+      (countEnd clock (12 ∷ 4 ∷ []) (11 ∷ 57 ∷ []) ≡ Gathered.refused CopiesCrossed)
+      × (refusalNumber CopiesCrossed ≡ 10)
+  pub one-place : ShowsCount single (5 ∷ []) (7 ∷ []) 7
+  pub nine : (digits (single .bases) 9 ≡ 9 ∷ []) × (digitOf (single .bases) 0 9 ≡ Digit.Is 9)
+  pub ten :
+      (carry single (0 ∷ []) (versionsAt 0) (WriteCount (record { 0 = 10 })) ≡ refused CountTooLarge)
+      × (digitOf (single .bases) 0 10 ≡ Digit.Refused TooLarge)
+      × (refusalNumber CountTooLarge ≡ 4)
+  pub widest : digits (replicate 8 256) (2 ^ 64 - 1) ≡ replicate 8 255
+  pub eighth :
+      carry single (0 ∷ []) (versionsAt 8) (WriteRecord 0)
+      ≡ done (withWriting (versionsAt 8) (aRecord (record { 0 = 9 }) 0 0)) Nothing
+  pub ninth :
+      (carry single (0 ∷ []) (versionsAt 9) (WriteRecord 0) ≡ refused VersionsExhausted)
+      × (refusalNumber VersionsExhausted ≡ 9)

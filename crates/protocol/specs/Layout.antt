@@ -1,0 +1,48 @@
+-- The page as lists of positions: c1, c2, v1, the record's bytes, v2.
+use mathlib.Core.List.{List, _++_, map, reverse}
+use Prim.Native.Nat.{ℕ, _+_}
+use lib.ListN.{getD}
+use Rattle.radix.specs.Digits.{digits}
+use Rattle.protocol.specs.Lists.{range}
+use Rattle.protocol.specs.Form.{Form, m, versionBases}
+
+abbrev pub c1 : Form → List ℕ
+c1 F = range 0 (m F)
+
+abbrev pub c2 : Form → List ℕ
+c2 F = range (m F) (m F)
+
+abbrev pub v1 : Form → List ℕ
+v1 F = range (m F + m F) (F .q)
+
+abbrev pub content : Form → List ℕ
+content F = range (m F + m F + F .q) (F .n)
+
+abbrev pub v2 : Form → List ℕ
+v2 F = range (m F + m F + F .q + F .n) (F .q)
+
+-- a count write: c2 left to right, c1 right to left (SRC report 27, figure 1)
+unfoldable pub countOrder : Form → List ℕ
+countOrder F = c2 F ++ reverse (c1 F)
+
+unfoldable pub countDigits : Form → ℕ → List ℕ
+countDigits F c = digits (F .bases) c ++ reverse (digits (F .bases) c)
+
+-- a count read goes the other way
+unfoldable pub countReadOrder : Form → List ℕ
+countReadOrder F = reverse (countOrder F)
+
+-- a record write: v1 left to right, the bytes ascending, v2 right to left (CACM 1977, with document 01's arrows)
+unfoldable pub recordOrder : Form → List ℕ
+recordOrder F = v1 F ++ content F ++ reverse (v2 F)
+
+unfoldable pub recordDigits : Form → ℕ → List ℕ → List ℕ
+recordDigits F v r = digits (versionBases F) v ++ r ++ reverse (digits (versionBases F) v)
+
+-- an attempt at a record read: v2 left to right, the bytes ascending, v1 right to left
+unfoldable pub attemptOrder : Form → List ℕ
+attemptOrder F = v2 F ++ content F ++ reverse (v1 F)
+
+-- what a page shows at positions
+abbrev pub look : List ℕ → List ℕ → List ℕ
+look page positions = map (λ p. getD page p 0) positions

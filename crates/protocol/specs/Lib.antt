@@ -1,0 +1,14 @@
+pub mod Lists
+pub mod Form
+pub mod Layout
+pub mod State
+pub mod Outcome
+pub mod Command
+pub mod Step
+pub mod Allowed
+pub mod Memory
+pub mod Load
+pub mod Run
+pub mod History
+pub mod Demand
+pub mod Edges

@@ -1,0 +1,66 @@
+-- What the callers lend from call to call, and the one way in which it holds a state.
+use mathlib.Core.List.{List, _++_, map, reverse}
+use mathlib.Core.Bool.{Bool, _&&_}
+use Prim.Native.Nat.{ℕ, _+_, _*_, _-_}
+use lib.Dec.{eqb}
+use lib.ListN.{length, take, drop, replicate}
+use Rattle.protocol.specs.Lists.{concat}
+use Rattle.protocol.specs.Form.{Form, m, countSteps, recordSteps}
+use Rattle.protocol.specs.State.{
+  Writing,
+  resting,
+  aCount,
+  aRecord,
+  Reading,
+  idle,
+  ofCount,
+  ofRecord,
+  State,
+}
+use Rattle.protocol.specs.declared.Writer.{Writer}
+use Rattle.protocol.specs.declared.Reader.{Reader}
+
+-- `buffers` has the readers' buffers one after the other
+pub record Memory : Type 0 where
+  pub page : List ℕ
+  pub writer : Writer
+  pub readers : List Reader
+  pub buffers : List ℕ
+
+-- A STATE AS IT IS STORED: fields that are not used, and digits that are not gathered, are zero
+
+unfoldable pub storedWriting : Writing → Writer
+storedWriting resting = record { kind = 0; count = record { 0 = 0 }; version = record { 0 = 0 }; index = 0; steps = 0 }
+storedWriting (aCount c k) = record { kind = 1; count = c; version = record { 0 = 0 }; index = 0; steps = k }
+storedWriting (aRecord v i k) = record { kind = 2; count = record { 0 = 0 }; version = v; index = i; steps = k }
+
+-- l, and zeros up to eight
+abbrev pub eight : List ℕ → List ℕ
+eight l = l ++ replicate (8 - length l) 0
+
+-- the first copy (or v2), of which digits are gathered from the left, and the second (or v1), from the right;
+-- w digits each, k of the second are there
+abbrev pub storedDigits : ℕ → ℕ → List ℕ → List ℕ
+storedDigits w k ds = eight (reverse (drop k ds)) ++ eight (replicate (w - k) 0 ++ take k ds)
+
+unfoldable pub storedReading : Form → Reading → Reader
+storedReading F idle = record { kind = 0; allowed = 0; finished = 0; steps = 0; digits = replicate 16 0 }
+storedReading F (ofCount ds) =
+    record { kind = 1; allowed = 0; finished = 0; steps = length ds; digits = storedDigits (m F) (length ds - m F) ds }
+storedReading F (ofRecord a f s ds) =
+    record { kind = 2; allowed = a; finished = f; steps = s; digits = storedDigits (F .q) (length ds - F .q) ds }
+
+unfoldable pub stored : Form → State → Memory
+stored F σ = record {
+  page = σ .page;
+  writer = storedWriting (σ .writing);
+  readers = map (storedReading F) (σ .readings);
+  buffers = concat (σ .buffers);
+}
+
+-- refusal 2 is given exactly if this fails, or the lent record or records have a wrong length
+unfoldable pub goodLengths : Form → Memory → Bool
+goodLengths F L =
+    eqb (length (L .page)) (countSteps F + recordSteps F)
+    && eqb (length (L .readers)) (F .readers)
+    && eqb (length (L .buffers)) (F .readers * F .n)

@@ -1,0 +1,112 @@
+// The declared types of the protocol. What they mean stands in specs/.
+ghost use mathlib.Core.Path.{_≡_};
+ghost use Rattle.protocol.specs.Outcome.{refusalNumber, endingNumber};
+use radix::Count;
+use radix::Version;
+
+// The numbers of a page, document 01's form, but for its count bases, which are lent as a slice: m is how many
+// they are.
+pub struct Format {
+    pub q: usize,
+    pub base: u16,
+    pub n: usize,
+    pub readers: usize,
+}
+
+// The writer's state, document 01's hand. Kind 0: nothing pending; 1: a count; 2: a record.
+pub struct Writer {
+    pub kind: u8,
+    pub count: Count,
+    pub version: Version,
+    pub index: usize,
+    pub steps: usize,
+}
+
+// A reader's state, document 01's station. Kind 0: idle; 1: a count read; 2: a record read.
+pub struct Reader {
+    pub kind: u8,
+    pub allowed: u8,
+    pub finished: u8,
+    pub steps: usize,
+    pub digits: [u8; 16],
+}
+
+// Document 01's slips.
+pub enum Command {
+    WriteCount(Count),
+    WriteRecord(usize),
+    WriterStep,
+    BeginCountRead(u8),
+    BeginRecordRead(u8, u8),
+    ReaderStep(u8),
+    Cancel(u8),
+}
+
+// How a command that was carried out ended. The record of `Accepted` is in the reader's buffer.
+pub enum Outcome {
+    Nothing,
+    Shown {
+        reader: u8,
+        count: Count,
+    },
+    Accepted {
+        reader: u8,
+        attempts: u8,
+        version: Version,
+    },
+    GaveUp {
+        reader: u8,
+        attempts: u8,
+    },
+}
+
+// The twelve refusals, in the order of document 01's numbers.
+pub enum Refusal {
+    BadFormat,
+    WrongLength,
+    InvalidState,
+    CountTooLarge,
+    CountDecreases,
+    Busy,
+    NothingPending,
+    NoSuch,
+    VersionsExhausted,
+    CopiesCrossed,
+    UnknownCommand,
+    LogFull,
+}
+
+pub enum Ending {
+    Finished,
+    Refused(Refusal),
+}
+
+// Document 01's number of a refusal.
+pub fn refusal_number(why: Refusal) -> u8
+    ensures { λ r. ⌜ r ≡ refusalNumber why ⌝ }
+{
+    match why {
+        Refusal::BadFormat => 1,
+        Refusal::WrongLength => 2,
+        Refusal::InvalidState => 3,
+        Refusal::CountTooLarge => 4,
+        Refusal::CountDecreases => 5,
+        Refusal::Busy => 6,
+        Refusal::NothingPending => 7,
+        Refusal::NoSuch => 8,
+        Refusal::VersionsExhausted => 9,
+        Refusal::CopiesCrossed => 10,
+        Refusal::UnknownCommand => 11,
+        Refusal::LogFull => 12,
+    }
+}
+
+// The same of an ending: 0 if nothing was refused.
+pub fn ending_number(e: Ending) -> u8
+    ensures { λ r. ⌜ r ≡ endingNumber e ⌝ }
+{
+    match e {
+        Ending::Finished => 0,
+        Ending::Refused(why) => refusal_number(why),
+    }
+}
