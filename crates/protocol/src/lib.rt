@@ -15,11 +15,11 @@ pub struct Format {
 
 // The writer's state, document 01's hand. Kind 0: nothing pending; 1: a count; 2: a record.
 pub struct Writer {
-    pub kind: u8,
     pub count: Count,
-    pub version: Version,
     pub index: usize,
     pub steps: usize,
+    pub version: Version,
+    pub kind: u32,
 }
 
 // A reader's state, document 01's station. Kind 0: idle; 1: a count read; 2: a record read.

@@ -1,0 +1,228 @@
+-- The readers' commands: what the protocol means on what is lent is what the code does.
+use mathlib.Core.Path.{_≡_, refl, sym, ap, ap₂, subst, _∙_}
+use mathlib.Core.List.{List, []}
+use mathlib.Core.Bool.{Bool, true, false, cond, _||_}
+use Prim.Native.Nat.{ℕ, _<_}
+use native.Mathlib.Omega.{arith}
+use lib.Dec.{ltb, leb, eqb}
+use lib.ListN.{length, getD, set}
+use lib.Seq.{getD-set-same}
+use borrow.Author.Tests.{leb-false, eqb-false}
+use Rattle.protocol.specs.Form.{Form}
+use Rattle.protocol.specs.State.{Reading, idle, ofCount, ofRecord, State, readingOf, bufferOf, busyReading, withReader}
+use Rattle.protocol.specs.Outcome.{entry}
+use Rattle.protocol.specs.Step.{
+  Answer as Meant,
+  refused,
+  refuseIf,
+  Gathered,
+  gathered,
+  nextPosition,
+  gather,
+  onGathered,
+  stepReader,
+  begins,
+  carry,
+}
+use Rattle.protocol.specs.Memory.{storedReading}
+use Rattle.protocol.specs.Load.{loadReading, load}
+use Rattle.protocol.specs.declared.Command.the-variants.{BeginCountRead, BeginRecordRead, ReaderStep, Cancel}
+use Rattle.protocol.specs.declared.Outcome.the-variants.{Nothing}
+use Rattle.protocol.specs.declared.Refusal.{Refusal}
+use Rattle.protocol.specs.declared.Refusal.the-variants.{Busy, NothingPending, NoSuch, LogFull}
+use Rattle.protocol.proofs.Allowed.Means.{GoodReading}
+use Rattle.protocol.proofs.Lists.Cases.{all-getD}
+use Rattle.protocol.proofs.Allowed.Kept.{Fine, Kept}
+use Rattle.protocol.proofs.Allowed.Reader.{begun-count, reader-kept}
+use Rattle.page.specs.declared.Answer.the-variants.{Done, Refused}
+use Rattle.page.specs.Store.{putRow, readerAt, putReader}
+use Rattle.page.specs.Reader.{moved, told, stepStore, beginStore, cancelStore}
+use Rattle.page.specs.Carry.{Here, here, holding, After, after, onAnswer, carryHere, Ready}
+use Rattle.page.proofs.Rows.Flat.{put-same}
+use Rattle.page.proofs.Rows.Readers.{Lists16}
+use Rattle.page.proofs.Steps.Meant.{onGather}
+use Rattle.page.proofs.Steps.Step.{step-store}
+use Rattle.page.proofs.Steps.Begin.{begin-count, begin-record, cancel}
+use Rattle.page.proofs.Carry.Meant.{onMoved, onTold}
+use Rattle.page.proofs.Carry.Stands.{
+  stored-whole,
+  now,
+  in-form,
+  fine-now,
+  reading-now,
+  buffer-now,
+  holding-reader,
+}
+use Rattle.page.proofs.Carry.Valid.{reader-here}
+use Rattle.page.proofs.Carry.Writer.{answer-nothing}
+
+-- a test that both sides take first
+first-test :
+    (F : Form) (room : ℕ) (h : Here) (t : Bool) (why : Refusal) (x : Meant) (y : After) →
+    (t ≡ false → onAnswer F room h x ≡ y) → onAnswer F room h (refuseIf t why x) ≡ cond t (after (Refused why) h) y
+unfolding onAnswer
+first-test F room h true why x y e = refl
+first-test F room h false why x y e = e refl
+
+neither : (a b : Bool) → a || b ≡ false → (a ≡ false) × (b ≡ false)
+neither true b h = absurd (let z : _≡_ {A = ℕ} 0 1 = cc in omega arith)
+neither false b h = (refl, h)
+
+module _
+    (F : Form)
+    (S : List ℕ)
+    (room : ℕ)
+    (h : Here)
+    (ready : Ready F S h)
+    (lists : Lists16 (h .store))
+    (r : ℕ)
+    (inside : r < F .readers)
+  where
+    abbrev σ : State
+    σ = now F S h ready lists
+
+    abbrev x : Reading
+    x = loadReading F (readerAt (h .store) r)
+
+    fine : Fine F S σ
+    fine = fine-now F S h ready lists
+
+    begins-here :
+        (y : Reading) → GoodReading F y →
+        onAnswer F room h (begins σ r y)
+        ≡ onMoved h (moved (Done Nothing) (putReader (h .store) r (storedReading F y)))
+    begins-here y g =
+        answer-nothing F room h (withReader σ r y (bufferOf σ r))
+        ∙ ap (λ (u : Here). after (Done Nothing) u)
+        (holding-reader F S h ready lists r inside y (stored-whole F (in-form F S h ready lists) y g) (bufferOf σ r)
+        ∙ ap (λ (b : List ℕ). here (h .page) (h .writer) (putReader (h .store) r (storedReading F y)) b)
+        (ap (λ (b : List ℕ). putRow (F .n) r b (h .buffers)) (buffer-now F S h ready lists r inside)
+        ∙ put-same (F .n) r (h .buffers)))
+
+    busy-first :
+        (y : Reading) → GoodReading F y →
+        onAnswer F room h (refuseIf (busyReading (readingOf σ r)) Busy (begins σ r y))
+        ≡ onMoved h
+        (cond (busyReading x) (moved (Refused Busy) (h .store))
+        (moved (Done Nothing) (putReader (h .store) r (storedReading F y))))
+    busy-first y g =
+        ap (λ (z : Reading). onAnswer F room h (refuseIf (busyReading z) Busy (begins σ r y)))
+        (reading-now F S h ready lists r inside)
+        ∙ go (busyReading x)
+      where
+        go : (t : Bool)
+            → onAnswer F room h (refuseIf t Busy (begins σ r y))
+            ≡ onMoved h
+            (cond t (moved (Refused Busy) (h .store))
+            (moved (Done Nothing) (putReader (h .store) r (storedReading F y))))
+        go true = unfold onAnswer in refl
+        go false = begins-here y g
+
+    cancels : onAnswer F room h (cond (busyReading (readingOf σ r)) (begins σ r idle) (refused NothingPending))
+        ≡ onMoved h (cancelStore (h .store) r)
+    cancels =
+        ap (λ (z : Reading). onAnswer F room h (cond (busyReading z) (begins σ r idle) (refused NothingPending)))
+        (reading-now F S h ready lists r inside)
+        ∙ go (busyReading x)
+        ∙ ap (onMoved h) (sym (cancel F (in-form F S h ready lists) (h .store) r
+        (reader-here F S h ready lists r inside .kept)))
+      where
+        go : (t : Bool)
+            → onAnswer F room h (cond t (begins σ r idle) (refused NothingPending))
+            ≡ onMoved h
+            (cond t (moved (Done Nothing) (putReader (h .store) r (storedReading F idle)))
+            (moved (Refused NothingPending) (h .store)))
+        go true = begins-here idle tt
+        go false = unfold onAnswer in refl
+
+    -- a step, whatever it gathers
+    good-after : (z : Reading) (b : List ℕ) → Fine F S (withReader σ r z b) → GoodReading F z
+    good-after z b f =
+        subst (GoodReading F) (getD-set-same (σ .readings) r z idle (omega (arith, fine .sized .readings)))
+        (all-getD (GoodReading F) (set (σ .readings) r z) r idle (f .good .readings) tt)
+
+    on-gather :
+        (y : Gathered) → Kept F S (onGathered σ r y) →
+        onAnswer F room h (onGathered σ r y) ≡ onTold h (onGather F (h .store) (h .buffers) r room y)
+    unfolding onGathered onGather onAnswer
+    on-gather (Gathered.refused why) f = refl
+    on-gather (gathered z b o) f = go (ltb room (length (entry o)))
+      where
+        go : (t : Bool)
+            → cond t (after (Refused LogFull) h) (after (Done o) (holding F (withReader σ r z b) h))
+            ≡ onTold h
+            (cond t (told (Refused LogFull) (h .store) (h .buffers))
+            (told (Done o) (putReader (h .store) r (storedReading F z)) (putRow (F .n) r b (h .buffers))))
+        go true = refl
+        go false =
+            ap (λ (u : Here). after (Done o) u)
+            (holding-reader F S h ready lists r inside z
+            (stored-whole F (in-form F S h ready lists) z (good-after z b f)) b)
+
+    steps : onAnswer F room h (stepReader F σ r) ≡ onTold h (stepStore F (h .page) (h .store) (h .buffers) r room)
+    unfolding load
+    steps =
+        on-gather (gather F r (getD (σ .page) (nextPosition F (readingOf σ r)) 0) (readingOf σ r) (bufferOf σ r))
+        (reader-kept F (in-form F S h ready lists) S σ r fine inside)
+        ∙ ap (onTold h)
+        (ap₂ (λ (z : Reading) (b : List ℕ).
+        onGather F (h .store) (h .buffers) r room (gather F r (getD (h .page) (nextPosition F z) 0) z b))
+        (reading-now F S h ready lists r inside) (buffer-now F S h ready lists r inside)
+        ∙ sym (step-store F (h .page) (h .store) (h .buffers) r room (reader-here F S h ready lists r inside)))
+
+module _ (F : Form) (S : List ℕ) (room : ℕ) (h : Here) (ready : Ready F S h) (lists : Lists16 (h .store)) where
+  pub carry-begin-count :
+      (r : ℕ) →
+      carryHere F S room h (BeginCountRead r)
+      ≡ cond (leb (F .readers) r) (after (Refused NoSuch) h) (onMoved h (beginStore 1 0 (h .store) r))
+  unfolding carry
+  carry-begin-count r =
+      first-test F room h (leb (F .readers) r) NoSuch _ (onMoved h (beginStore 1 0 (h .store) r))
+      (λ e.
+      let inside : r < F .readers = leb-false (F .readers) r e in
+      busy-first F S room h ready lists r inside (ofCount []) (begun-count F (in-form F S h ready lists))
+      ∙ ap (onMoved h)
+      (sym (begin-count F (in-form F S h ready lists) (h .store) r
+      (reader-here F S h ready lists r inside .kept))))
+
+  pub carry-begin-record :
+      (r attempts : ℕ) →
+      carryHere F S room h (BeginRecordRead r attempts)
+      ≡ cond (leb (F .readers) r || eqb attempts 0) (after (Refused NoSuch) h)
+      (onMoved h (beginStore 2 attempts (h .store) r))
+  unfolding carry
+  carry-begin-record r attempts =
+      first-test F room h (leb (F .readers) r || eqb attempts 0) NoSuch _
+      (onMoved h (beginStore 2 attempts (h .store) r))
+      (λ e.
+      let (a, n) = neither (leb (F .readers) r) (eqb attempts 0) e in
+      let inside : r < F .readers = leb-false (F .readers) r a in
+      busy-first F S room h ready lists r inside (ofRecord attempts 0 0 []) (
+        omega (arith, eqb-false attempts 0 n),
+        omega (arith, in-form F S h ready lists .versions),
+        omega arith,
+        refl,
+      )
+      ∙ ap (onMoved h)
+      (sym (begin-record F (in-form F S h ready lists) (h .store) r
+      (reader-here F S h ready lists r inside .kept) attempts)))
+
+  pub carry-reader :
+      (r : ℕ) →
+      carryHere F S room h (ReaderStep r)
+      ≡ cond (leb (F .readers) r) (after (Refused NoSuch) h)
+      (onTold h (stepStore F (h .page) (h .store) (h .buffers) r room))
+  unfolding carry
+  carry-reader r =
+      first-test F room h (leb (F .readers) r) NoSuch _
+      (onTold h (stepStore F (h .page) (h .store) (h .buffers) r room))
+      (λ e. steps F S room h ready lists r (leb-false (F .readers) r e))
+
+  pub carry-cancel :
+      (r : ℕ) →
+      carryHere F S room h (Cancel r)
+      ≡ cond (leb (F .readers) r) (after (Refused NoSuch) h) (onMoved h (cancelStore (h .store) r))
+  unfolding carry
+  carry-cancel r =
+      first-test F room h (leb (F .readers) r) NoSuch _ (onMoved h (cancelStore (h .store) r))
+      (λ e. cancels F S room h ready lists r (leb-false (F .readers) r e))

@@ -1,0 +1,3 @@
+-- Laws that the proofs of entry cite.
+pub mod Overlays
+pub mod Outcomes

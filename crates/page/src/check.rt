@@ -1,0 +1,310 @@
+// The checks at the start of a call: refusals 1 to 3.
+ghost use mathlib.Core.Path.{_≡_};
+ghost use mathlib.Core.Bool.{true, _&&_};
+ghost use Prim.Native.Nat.{_+_, _*_, _≤_, _<_};
+ghost use lib.Dec.{eqb, ltb};
+ghost use lib.ListN.{length, take, drop};
+ghost use Rattle.radix.specs.Digits.{product, valid};
+ghost use Rattle.radix.specs.Answers.{goodBases};
+ghost use Rattle.protocol.specs.Form.{formOf, versionBases, goodForm, countSteps, recordSteps};
+ghost use Rattle.protocol.specs.Step.{inRecords};
+ghost use Rattle.protocol.specs.Allowed.{allowedPage};
+ghost use Rattle.page.specs.Store.{store};
+ghost use Rattle.page.specs.Check.{eightOk, gatheredOk, writerOk, readerOk, readersOk};
+use protocol::Format;
+use protocol::Writer;
+use radix::Count;
+use radix::CountRead;
+use radix::Digit;
+use radix::Version;
+use radix::VersionRead;
+
+// Is every number of the format in its range?
+pub(crate) fn good_format(format: Format, bases: &[u16]) -> bool
+    ensures { λ r. ⌜ r ≡ goodForm (formOf (now (bases .entry)) format) ⌝ }
+{
+    if bases.len() < 1 {
+        return false;
+    }
+    let zero = radix::counts::digit(bases, 0, Count(0));
+    let Digit::Is(_) = zero else {
+        return false;
+    };
+    if format.q < 1 || 4 < format.q {
+        return false;
+    }
+    if format.base < 2 || 256 < format.base {
+        return false;
+    }
+    if format.n < 1 || 256 < format.n {
+        return false;
+    }
+    1 <= format.readers && format.readers <= 16
+}
+
+// Have the page, the readers' states and the buffers the lengths that the format asks?
+pub(crate) fn good_lengths(
+    format: Format,
+    bases: &[u16],
+    page: usize,
+    readers: usize,
+    buffers: usize,
+) -> bool
+    requires { ⌜ goodForm (formOf (now bases) format) ≡ true ⌝ }
+    ensures { λ r. ⌜ r
+        ≡ (eqb page (countSteps (formOf (now (bases .entry)) format) + recordSteps (formOf (now (bases .entry)) format))
+        && eqb readers (format .readers)
+        && eqb buffers (format .readers * format .n)) ⌝ }
+{
+    let m = bases.len();
+    if page != m + m + (format.q + format.n + format.q) {
+        return false;
+    }
+    if readers != format.readers {
+        return false;
+    }
+    buffers == format.readers * format.n
+}
+
+// Is a count below the product of the bases?
+pub(crate) fn count_fits(bases: &[u16], c: Count) -> bool
+    requires { ⌜ (goodBases (now bases) ≡ true) × (1 ≤ length (now bases)) ⌝ }
+    ensures { λ r. ⌜ r ≡ ltb (c .0) (product (now (bases .entry))) ⌝ }
+{
+    let first = radix::counts::digit(bases, 0, c);
+    let Digit::Is(_) = first else {
+        return false;
+    };
+    true
+}
+
+// Is a version below the product of the version bases?
+fn version_fits(format: Format, bases: &[u16], v: Version) -> bool
+    requires { ⌜ goodForm (formOf (now bases) format) ≡ true ⌝ }
+    ensures { λ r. ⌜ r ≡ ltb (v .0) (product (versionBases (formOf (now (bases .entry)) format))) ⌝ }
+{
+    let first = radix::versions::digit(format.base, format.q, 0, v);
+    let Digit::Is(_) = first else {
+        return false;
+    };
+    true
+}
+
+// Are a copy's digits on the page below their bases?
+fn copy_valid(bases: &[u16], page: &[u8], from: usize) -> bool
+    requires { ⌜ (goodBases (now bases) ≡ true) × (from + length (now bases) ≤ length (now page)) ⌝ }
+    ensures { λ r. ⌜ r ≡ valid (now (bases .entry))
+        (take (length (now (bases .entry))) (drop from (now (page .entry)))) ⌝ }
+{
+    let end = from + bases.len();
+    let c = radix::counts::read(bases, &page[from..end]);
+    let CountRead::Is(_) = c else {
+        return false;
+    };
+    true
+}
+
+// Are a version's digits on the page below the base?
+fn version_valid(format: Format, bases: &[u16], page: &[u8], from: usize) -> bool
+    requires { ⌜ (goodForm (formOf (now bases) format) ≡ true) × (from + format .q ≤ length (now page)) ⌝ }
+    ensures { λ r. ⌜ r ≡ valid (versionBases (formOf (now (bases .entry)) format))
+        (take (format .q) (drop from (now (page .entry)))) ⌝ }
+{
+    let q = format.q;
+    let end = from + q;
+    let v = radix::versions::read(format.base, q, &page[from..end]);
+    let VersionRead::Is(_) = v else {
+        return false;
+    };
+    true
+}
+
+pub(crate) fn page_valid(format: Format, bases: &[u16], page: &[u8]) -> bool
+    requires { ⌜ (goodForm (formOf (now bases) format) ≡ true)
+        × (length (now page) ≡ countSteps (formOf (now bases) format) + recordSteps (formOf (now bases) format)) ⌝ }
+    ensures { λ r. ⌜ r ≡ allowedPage (formOf (now (bases .entry)) format) (now (page .entry)) ⌝ }
+{
+    let m = bases.len();
+    if !copy_valid(bases, page, 0) {
+        return false;
+    }
+    if !copy_valid(bases, page, m) {
+        return false;
+    }
+    if !version_valid(format, bases, page, m + m) {
+        return false;
+    }
+    version_valid(format, bases, page, m + m + format.q + format.n)
+}
+
+// Is an index one of a lent record?
+pub(crate) fn index_fits(format: Format, bases: &[u16], records: &[u8], index: usize) -> bool
+    requires { ⌜ goodForm (formOf (now bases) format) ≡ true ⌝ }
+    ensures { λ r. ⌜ r ≡ inRecords (formOf (now (bases .entry)) format) (now (records .entry)) index ⌝ }
+{
+    let n = format.n;
+    index < records.len() / n
+}
+
+pub(crate) fn writer_valid(format: Format, bases: &[u16], records: &[u8], w: Writer) -> bool
+    requires { ⌜ goodForm (formOf (now bases) format) ≡ true ⌝ }
+    ensures { λ r. ⌜ r ≡ writerOk (formOf (now (bases .entry)) format) (now (records .entry)) w ⌝ }
+{
+    let m = bases.len();
+    let kind = w.kind;
+    if kind == 0 {
+        if w.count.0 != 0 || w.version.0 != 0 || w.index != 0 {
+            return false;
+        }
+        return w.steps == 0;
+    }
+    if kind == 1 {
+        if w.version.0 != 0 || w.index != 0 || m + m <= w.steps {
+            return false;
+        }
+        return count_fits(bases, Count(w.count.0));
+    }
+    if kind != 2
+        || w.count.0 != 0
+        || format.q + format.n + format.q <= w.steps
+        || w.version.0 == 0
+    {
+        return false;
+    }
+    if !version_fits(format, bases, Version(w.version.0)) {
+        return false;
+    }
+    index_fits(format, bases, records, w.index)
+}
+
+// Of eight digits from a place on: those from low up to high are below their bases, and the others are zero.
+fn eight_valid(bases: &[u16], digits: &[u8], at: usize, low: usize, high: usize) -> bool
+    requires { ⌜ (length (now bases) ≤ 8) × (high ≤ length (now bases)) × (at + 8 ≤ length (now digits)) ⌝ }
+    ensures { λ r. ⌜ r ≡ eightOk (now (bases .entry)) (now (digits .entry)) at low high ⌝ }
+{
+    let mut p: usize = 0;
+    while p < 8 {
+        let d = digits[at + p] as u16;
+        if low <= p && p < high {
+            if bases[p] <= d {
+                return false;
+            }
+        } else {
+            if d != 0 {
+                return false;
+            }
+        }
+        p = p + 1;
+    }
+    true
+}
+
+// The sixteen digits of reader i, of which g are gathered.
+fn digits_valid(bases: &[u16], digits: &[u8], i: usize, g: usize) -> bool
+    requires { ⌜ (length (now bases) ≤ 8) × (length (now digits) ≡ 256) × (i < 16) ×
+        (g ≤ length (now bases) + length (now bases)) ⌝ }
+    ensures { λ r. ⌜ r ≡ gatheredOk (now (bases .entry)) (now (digits .entry)) i g ⌝ }
+{
+    let w = bases.len();
+    if g < w {
+        if !eight_valid(bases, digits, i * 16, 0, g) {
+            return false;
+        }
+        return eight_valid(bases, digits, i * 16 + 8, w, w);
+    }
+    if !eight_valid(bases, digits, i * 16, 0, w) {
+        return false;
+    }
+    eight_valid(bases, digits, i * 16 + 8, w - (g - w), w)
+}
+
+// Is reader i's state one that the format allows?
+fn reader_valid(
+    format: Format,
+    bases: &[u16],
+    version_bases: &[u16],
+    i: usize,
+    kinds: &[u8; 16],
+    allowed: &[u8; 16],
+    finished: &[u8; 16],
+    steps: &[usize; 16],
+    digits: &[u8; 256],
+) -> bool
+    requires { ⌜ (goodForm (formOf (now bases) format) ≡ true)
+        × (now «version_bases» ≡ versionBases (formOf (now bases) format))
+        × (i < 16) ⌝ }
+    ensures { λ r. ⌜ r
+        ≡ readerOk (formOf (now (bases .entry)) format)
+        (store (now (kinds .entry)) (now (allowed .entry)) (now (finished .entry)) (now (steps .entry))
+        (now (digits .entry))) i ⌝ }
+{
+    let m = bases.len();
+    let q = format.q;
+    let n = format.n;
+    let kind = kinds[i];
+    let k = steps[i];
+    if kind == 2 {
+        if allowed[i] <= finished[i] || q + n + q <= k {
+            return false;
+        }
+        if k < q {
+            return digits_valid(version_bases, digits, i, k);
+        }
+        if k < q + n {
+            return digits_valid(version_bases, digits, i, q);
+        }
+        return digits_valid(version_bases, digits, i, k - n);
+    }
+    if allowed[i] != 0 || finished[i] != 0 {
+        return false;
+    }
+    if kind == 0 {
+        if k != 0 {
+            return false;
+        }
+        return digits_valid(bases, digits, i, 0);
+    }
+    if kind != 1 || m + m <= k {
+        return false;
+    }
+    digits_valid(bases, digits, i, k)
+}
+
+// Is every reader's state one that the format allows?
+pub(crate) fn readers_valid(
+    format: Format,
+    bases: &[u16],
+    version_bases: &[u16],
+    kinds: &[u8; 16],
+    allowed: &[u8; 16],
+    finished: &[u8; 16],
+    steps: &[usize; 16],
+    digits: &[u8; 256],
+) -> bool
+    requires { ⌜ (goodForm (formOf (now bases) format) ≡ true)
+        × (now «version_bases» ≡ versionBases (formOf (now bases) format)) ⌝ }
+    ensures { λ r. ⌜ r
+        ≡ readersOk (formOf (now (bases .entry)) format)
+        (store (now (kinds .entry)) (now (allowed .entry)) (now (finished .entry)) (now (steps .entry))
+        (now (digits .entry)))
+        (format .readers) ⌝ }
+{
+    let mut i: usize = 0;
+    while i < format.readers {
+        if !reader_valid(
+            format,
+            bases,
+            version_bases,
+            i,
+            kinds,
+            allowed,
+            finished,
+            steps,
+            digits,
+        ) {
+            return false;
+        }
+        i = i + 1;
+    }
+    true
+}

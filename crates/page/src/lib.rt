@@ -1,0 +1,37 @@
+// The page library: the opening, the seven commands and the run, in forms that the borrow checker covers.
+//
+// The readers' states are kept in five lent arrays of sixteen, one entry (of `digits`, sixteen bytes) for each reader.
+mod check;
+mod decode;
+mod entry;
+mod opening;
+mod reader;
+mod turn;
+mod writing;
+
+pub use opening::open;
+use protocol::Ending;
+use protocol::Outcome;
+use protocol::Refusal;
+use protocol::Writer;
+pub use turn::run;
+
+// What an opening answers, and the writer as it leaves it.
+pub struct Opened {
+    pub ending: Ending,
+    pub writer: Writer,
+}
+
+// What a run answers: commands carried out, bytes written into the log, how it ended; and the writer as it leaves it.
+pub struct Ran {
+    pub done: usize,
+    pub written: usize,
+    pub ending: Ending,
+    pub writer: Writer,
+}
+
+// What one command answers.
+pub(crate) enum Answer {
+    Done(Outcome),
+    Refused(Refusal),
+}
