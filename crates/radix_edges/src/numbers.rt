@@ -5,7 +5,7 @@ use radix::CountRead;
 use radix::Version;
 use radix::VersionRead;
 
-pub fn write(bases: &[u16], x: u64, out: &mut [u8]) {
+pub(crate) fn write(bases: &[u16], x: u64, out: &mut [u8]) {
     show::say(b"write ");
     show::tell(x);
     show::say(b" over");
@@ -15,7 +15,7 @@ pub fn write(bases: &[u16], x: u64, out: &mut [u8]) {
     show::written(w, out);
 }
 
-pub fn digit(bases: &[u16], k: usize, x: u64) {
+pub(crate) fn digit(bases: &[u16], k: usize, x: u64) {
     show::say(b"digit ");
     show::tell(k as u64);
     show::say(b" of ");
@@ -27,7 +27,7 @@ pub fn digit(bases: &[u16], k: usize, x: u64) {
     show::say(b"\n");
 }
 
-pub fn read(bases: &[u16], digits: &[u8]) {
+pub(crate) fn read(bases: &[u16], digits: &[u8]) {
     show::say(b"read");
     show::bytes(digits);
     show::say(b" over");
@@ -53,7 +53,7 @@ fn places(base: u16, q: usize) {
     show::say(b":");
 }
 
-pub fn write_version(base: u16, q: usize, v: u32, out: &mut [u8]) {
+pub(crate) fn write_version(base: u16, q: usize, v: u32, out: &mut [u8]) {
     show::say(b"write version ");
     show::tell(v as u64);
     places(base, q);
@@ -61,7 +61,7 @@ pub fn write_version(base: u16, q: usize, v: u32, out: &mut [u8]) {
     show::written(w, out);
 }
 
-pub fn version_digit(base: u16, q: usize, k: usize, v: u32) {
+pub(crate) fn version_digit(base: u16, q: usize, k: usize, v: u32) {
     show::say(b"digit ");
     show::tell(k as u64);
     show::say(b" of version ");
@@ -71,7 +71,7 @@ pub fn version_digit(base: u16, q: usize, k: usize, v: u32) {
     show::say(b"\n");
 }
 
-pub fn read_version(base: u16, q: usize, digits: &[u8]) {
+pub(crate) fn read_version(base: u16, q: usize, digits: &[u8]) {
     show::say(b"read version");
     show::bytes(digits);
     places(base, q);

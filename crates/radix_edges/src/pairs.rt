@@ -21,7 +21,7 @@ fn parting(c: Comparison) {
     }
 }
 
-pub fn compare(a: &[u8], b: &[u8]) {
+pub(crate) fn compare(a: &[u8], b: &[u8]) {
     show::say(b"compare");
     named(a, b);
     show::say(b":");
@@ -33,7 +33,7 @@ pub fn compare(a: &[u8], b: &[u8]) {
     show::say(b"\n");
 }
 
-pub fn ends(bases: &[u16], a: &[u8], b: &[u8]) {
+pub(crate) fn ends(bases: &[u16], a: &[u8], b: &[u8]) {
     show::say(b"ends of");
     named(a, b);
     show::say(b" over");

@@ -4,11 +4,11 @@ use radix::Digit;
 use radix::Fault;
 use radix::Written;
 
-pub fn say(text: &[u8]) {
+pub(crate) fn say(text: &[u8]) {
     io::write_all(1, text);
 }
 
-pub fn tell(x: u64) {
+pub(crate) fn tell(x: u64) {
     io::print_decimal(1, x);
 }
 
@@ -17,7 +17,7 @@ fn byte(x: u8) {
     tell(x as u64);
 }
 
-pub fn bytes(all: &[u8]) {
+pub(crate) fn bytes(all: &[u8]) {
     let mut i: usize = 0;
     while i < all.len() {
         byte(all[i]);
@@ -30,7 +30,7 @@ fn base(x: u16) {
     tell(x as u64);
 }
 
-pub fn bases(all: &[u16]) {
+pub(crate) fn bases(all: &[u16]) {
     let mut i: usize = 0;
     while i < all.len() {
         base(all[i]);
@@ -49,13 +49,13 @@ fn number(why: Fault) -> u64 {
     }
 }
 
-pub fn refused(why: Fault) {
+pub(crate) fn refused(why: Fault) {
     say(b" refused ");
     tell(number(why));
 }
 
 // The answer of a write, and what was lent as the call left it.
-pub fn written(w: Written, out: &[u8]) {
+pub(crate) fn written(w: Written, out: &[u8]) {
     match w {
         Written::Done => say(b" done, lent"),
         Written::Refused(why) => {
@@ -67,7 +67,7 @@ pub fn written(w: Written, out: &[u8]) {
     say(b"\n");
 }
 
-pub fn digit(d: Digit) {
+pub(crate) fn digit(d: Digit) {
     match d {
         Digit::Is(x) => byte(x),
         Digit::Refused(why) => refused(why),
@@ -75,7 +75,7 @@ pub fn digit(d: Digit) {
 }
 
 // A count, and its digits one by one.
-pub fn count(over: &[u16], c: Count) {
+pub(crate) fn count(over: &[u16], c: Count) {
     tell(c.0);
     say(b" =");
     let mut k: usize = 0;
