@@ -139,8 +139,7 @@ runHere F S k h s log =
     ranHere (ranOf (x .events) (x .ending) (x .memory .writer)) (over (x .memory) h) (logAfter (x .events) log)
 
 -- DEMAND 3 FOR THE CALLER: whatever list of runs from an accepted opening left what is lent now, the claim holds of
--- that
--- list with this run added
+-- that list with this run added
 abbrev pub Carries : Form → List ℕ → Memory → Run → Type 0
 Carries F S L x =
     (L₀ : Memory) (c : Count) (record₀ : List ℕ) (xs : List Run) →

@@ -1,15 +1,15 @@
 -- Demand 3: one claim about the whole list of runs.
 use mathlib.Core.Path.{_≡_}
 use mathlib.Core.Logic.{_⊎_, _≢_}
-use mathlib.Core.List.{List, [], _∷_, _++_, map}
-use mathlib.Core.Bool.{Bool, true, false, _&&_, cond}
+use mathlib.Core.List.{List, [], _∷_, _++_, map, reverse}
+use mathlib.Core.Bool.{Bool, true, false, _&&_, not, cond}
 use Prim.Native.Nat.{ℕ, suc, _+_, _*_, _-_, _%_, _≤_, _<_}
 use lib.Dec.{eqb, ltb}
 use lib.ListN.{length, getD, replicate}
 use Rattle.radix.specs.declared.Count.{Count}
 use Rattle.radix.specs.declared.Version.{Version}
 use Rattle.radix.specs.declared.Place.{Place}
-use Rattle.protocol.specs.Lists.{All, Any}
+use Rattle.protocol.specs.Lists.{concat, All, Pairwise, Any}
 use Rattle.protocol.specs.Form.{Form, countSteps, recordSteps}
 use Rattle.protocol.specs.State.{State, Reading, idle, ofCount, ofRecord, readingOf, bufferOf}
 use Rattle.protocol.specs.Memory.{Memory}
@@ -44,9 +44,8 @@ handed (x ∷ xs) (y ∷ ys) =
     record { given = x .given; accepts = map (λ (e : Event). isAccepted (e .outcome)) (y .events) } ∷ handed xs ys
 
 -- all commands carried out, in order: command number t is at t − 1
-unfoldable pub story : List Ran → List Event
-story [] = []
-story (y ∷ ys) = y .events ++ story ys
+abbrev pub story : List Ran → List Event
+story ys = concat (map (λ (y : Ran). y .events) ys)
 
 -- how command t ended, and reader r's buffer right after it
 abbrev pub outcomeAt : List Event → ℕ → Outcome
@@ -57,13 +56,10 @@ bufferAt tale t r = getD (map (λ (e : Event). bufferOf (e .after) r) tale) (t -
 
 -- of steps kept latest first
 abbrev pub lastOf : List ℕ → ℕ
-lastOf [] = 0
-lastOf (t ∷ ts) = t
+lastOf ts = getD ts 0 0
 
 abbrev pub firstOf : List ℕ → ℕ
-firstOf [] = 0
-firstOf (t ∷ []) = t
-firstOf (t ∷ u ∷ ts) = firstOf (u ∷ ts)
+firstOf ts = lastOf (reverse ts)
 
 -- (B) EVERY COUNT SHOWN LIES IN ITS SPAN
 
@@ -79,24 +75,22 @@ abbrev pub latest : {A : Type 0} → (Write A → Bool) → A → List (Write A)
 latest test a [] = a
 latest test a (p ∷ ps) = cond (test p) (p .what) (latest test a ps)
 
-pub record Span (size : ℕ) (opening : Count) (tale : List Event) (counts : List (Write Count)) (x : CountRead)
-    : Type 0 where
+-- c is the opening's count
+pub record Span (size : ℕ) (c : Count) (tale : List Event) (cs : List (Write Count)) (x : CountRead) : Type 0 where
   pub shown : Count
   pub ends : outcomeAt tale (lastOf (x .steps)) ≡ Shown (x .reader) shown
-  pub low : latest (writtenBefore size (firstOf (x .steps))) opening counts .0 ≤ shown .0
-  pub high : shown .0 ≤ latest (begunBefore (lastOf (x .steps))) opening counts .0
+  pub low : latest (writtenBefore size (firstOf (x .steps))) c cs .0 ≤ shown .0
+  pub high : shown .0 ≤ latest (begunBefore (lastOf (x .steps))) c cs .0
 
 -- (C) EVERY UNDISTURBED ATTEMPT IS ACCEPTED
 
--- the write is unfinished during the attempt
-pub record Unfinished (size : ℕ) (y : Attempt) (p : Write Placed) : Type 0 where
-  pub begins : 0 < length (p .steps)
-  pub early : firstOf (p .steps) < lastOf (y .steps)
-  pub late : (length (p .steps) ≡ size) × (lastOf (p .steps) < firstOf (y .steps)) → ⊥
+-- the write is unfinished during the attempt: begun before the attempt's last step, not fully written before its first
+abbrev pub unfinished : ℕ → Attempt → Write Placed → Bool
+unfinished size y p = begunBefore (lastOf (y .steps)) p && not (writtenBefore size (firstOf (y .steps)) p)
 
 abbrev pub Undisturbed : ℕ → List Event → List (Write Placed) → Attempt → Type 0
-Undisturbed size tale records y =
-    All (λ p. Unfinished size y p → ⊥) records → isAccepted (outcomeAt tale (lastOf (y .steps))) ≡ true
+Undisturbed size tale rs y =
+    All (λ p. unfinished size y p ≡ false) rs → isAccepted (outcomeAt tale (lastOf (y .steps))) ≡ true
 
 -- (A) ONE ORDER OF WHOLE ACTS
 
@@ -110,31 +104,18 @@ pub record Moment : Type 0 where
   pub act : Act
   pub at : ℕ
 
--- the order, latest first: no act twice, and moments never fall from an act to a later one
-abbrev pub Once : List Moment → Type 0
-Once [] = Unit {0}
-Once (a ∷ l) = (Any (λ b. a .act ≡ b .act) l → ⊥) × Once l
-
-abbrev pub Ordered : List Moment → Type 0
-Ordered [] = Unit {0}
-Ordered (a ∷ l) = All (λ b. b .at ≤ a .at) l × Ordered l
-
 abbrev pub Has : List Moment → Act → Type 0
 Has l a = Any (λ b. b .act ≡ a) l
 
--- the place of the last write in the order, else 0
+-- the place of the last write, else 0
 abbrev pub lastWrite : List Act → Place
 lastWrite [] = record { 0 = 0 }
 lastWrite (wrote i ∷ l) = i
 lastWrite (took u ∷ l) = lastWrite l
 
-abbrev pub lastPlace : List Moment → Place
-lastPlace l = lastWrite (map (λ (a : Moment). a .act) l)
-
--- the record of a place
+-- the record of a place; the opening's has place 0
 abbrev pub recordOf : List ℕ → List (Write Placed) → Place → List ℕ
-recordOf r [] i = r
-recordOf r (p ∷ ps) i = cond (eqb (p .what .place .0) (i .0)) (p .what .content) (recordOf r ps i)
+recordOf r ps i = latest (λ p. eqb (p .what .place .0) (i .0)) (placed 0 r) ps .content
 
 abbrev pub Within : ℕ → List ℕ → Type 0
 Within t steps = (firstOf steps ≤ t) × (t ≤ lastOf steps)
@@ -142,41 +123,31 @@ Within t steps = (firstOf steps ≤ t) × (t ≤ lastOf steps)
 -- an act of the order is one of the history, its moment between its first and last steps (of an accepted read: of the
 -- accepted attempt)
 abbrev pub Real : List (Write Placed) → List Attempt → ℕ → Act → Type 0
-Real records attempts t (wrote i) =
-    Any (λ p. (p .what .place ≡ i) × (0 < length (p .steps)) × Within t (p .steps)) records
-Real records attempts t (took u) =
-    Any (λ y. (y .accepted ≡ true) × (lastOf (y .steps) ≡ u) × Within t (y .steps)) attempts
+Real rs ys t (wrote i) = Any (λ p. (p .what .place ≡ i) × (0 < length (p .steps)) × Within t (p .steps)) rs
+Real rs ys t (took u) = Any (λ y. (y .accepted ≡ true) × (lastOf (y .steps) ≡ u) × Within t (y .steps)) ys
 
--- the one place where a version meets a place
-abbrev pub SameNumber : Version → Place → Type 0
-SameNumber v i = v .0 ≡ i .0
-
--- what an accepted read holds and reports
-pub record Reports
-    (F : Form) (record₀ : List ℕ) (tale : List Event) (records : List (Write Placed)) (y : Attempt) (i : Place)
-    : Type 0 where
+-- what an accepted read holds and reports, if the last write before it has place i
+pub record Reports (record₀ : List ℕ) (tale : List Event) (h : History) (y : Attempt) (i : Place) : Type 0 where
   pub version : Version
   pub used : ℕ
-  pub holds : bufferAt tale (lastOf (y .steps)) (y .reader) ≡ recordOf record₀ records i
+  pub holds : bufferAt tale (lastOf (y .steps)) (y .reader) ≡ recordOf record₀ (h .records) i
   pub says : outcomeAt tale (lastOf (y .steps)) ≡ Accepted (y .reader) used version
-  pub number : SameNumber version i
+  -- nowhere else does a version meet a place
+  pub number : version .0 ≡ i .0
 
-pub record Order
-    (F : Form) (record₀ : List ℕ) (tale : List Event) (records : List (Write Placed)) (attempts : List Attempt)
-    : Type 0 where
+-- the order, latest first: no act twice, and moments never fall from an act to a later one
+pub record Order (F : Form) (record₀ : List ℕ) (tale : List Event) (h : History) : Type 0 where
   pub acts : List Moment
-  pub once : Once acts
-  pub writes : All (λ p. length (p .steps) ≡ recordSteps F → Has acts (wrote (p .what .place))) records
-  pub reads : All (λ y. y .accepted ≡ true → Has acts (took (lastOf (y .steps)))) attempts
-  pub real : All (λ a. Real records attempts (a .at) (a .act)) acts
-  pub ordered : Ordered acts
+  pub once : Pairwise (λ a b. a .act ≢ b .act) acts
+  pub writes : All (λ p. length (p .steps) ≡ recordSteps F → Has acts (wrote (p .what .place))) (h .records)
+  pub reads : All (λ y. y .accepted ≡ true → Has acts (took (lastOf (y .steps)))) (h .attempts)
+  pub real : All (λ a. Real (h .records) (h .attempts) (a .at) (a .act)) acts
+  pub ordered : Pairwise (λ a b. b .at ≤ a .at) acts
+  -- of an accepted read, the acts before it are `earlier`
   pub reports :
-      All
-      (λ y.
-      y .accepted ≡ true → (later : List Moment) (t : ℕ) (earlier : List Moment) →
-      acts ≡ later ++ (record { act = took (lastOf (y .steps)); at = t } ∷ earlier) →
-      Reports F record₀ tale records y (lastPlace earlier))
-      attempts
+      (later : List Moment) (t : ℕ) (earlier : List Moment) →
+      All (λ y. y .accepted ≡ true → acts ≡ later ++ (record { act = took (lastOf (y .steps)); at = t } ∷ earlier) →
+      Reports record₀ tale h y (lastWrite (map (λ (a : Moment). a .act) earlier))) (h .attempts)
 
 -- WHAT THE ORDER AND THE SPANS LEAVE OPEN
 
@@ -190,10 +161,7 @@ Ends F tale y Nothing = (y .accepted ≡ false) × (length (y .steps) + length (
 Ends F tale y (Shown r c) = ⊥
 Ends F tale y (Accepted r k v) = (y .accepted ≡ true) × (r ≡ y .reader) × Used F y k
 Ends F tale y (GaveUp r k) =
-    (y .accepted ≡ false)
-    × (r ≡ y .reader)
-    × Used F y k
-    × (k ≡ y .allowed)
+    (y .accepted ≡ false) × (r ≡ y .reader) × Used F y k × (k ≡ y .allowed)
     × (bufferAt tale (lastOf (y .steps)) r ≡ replicate (F .n) 0)
 
 -- an outcome is that of a read of the history
@@ -213,32 +181,23 @@ Whole size pending [] = Unit {0}
 Whole size pending (p ∷ ps) =
     ((length (p .steps) ≡ size) ⊎ (pending ≡ Pending.ofRecord)) × All (λ q. length (q .steps) ≡ size) ps
 
--- a reader agrees with its read in the history: a record read that goes on has taken fewer steps than
--- allowed × (2q + n)
-abbrev pub Agree : Form → Reading → Read → Type 0
-Agree F idle Read.none = Unit {0}
-Agree F idle (Read.ofCount ts) = ⊥
-Agree F idle (Read.ofRecord a es ts) = ⊥
-Agree F (ofCount ds) Read.none = ⊥
-Agree F (ofCount ds) (Read.ofCount ts) = (length ts ≡ length ds) × (length ds < countSteps F)
-Agree F (ofCount ds) (Read.ofRecord a es ts) = ⊥
-Agree F (ofRecord a f s ds) Read.none = ⊥
-Agree F (ofRecord a f s ds) (Read.ofCount ts) = ⊥
-Agree F (ofRecord a f s ds) (Read.ofRecord b es ts) =
-    (a ≡ b) × (length es ≡ f * recordSteps F) × (length ts ≡ s) × (s < recordSteps F) × (f < a)
+-- a reader agrees with its read in the history in one of three ways: a record read that goes on has taken fewer steps
+-- than allowed × (2q + n)
+pub data Agree (F : Form) : Reading → Read → Type 0 where
+  bothIdle : Agree F idle Read.none
+  bothCount :
+      {ds ts : List ℕ} → length ts ≡ length ds → length ds < countSteps F → Agree F (ofCount ds) (Read.ofCount ts)
+  bothRecord :
+      {a f s : ℕ} {ds es ts : List ℕ} → length es ≡ f * recordSteps F → length ts ≡ s → s < recordSteps F → f < a →
+      Agree F (ofRecord a f s ds) (Read.ofRecord a es ts)
 
 -- refusals that no run of the list meets: 1, 3 and 10 never, 2 only if the lent records are no multiple of n
-pub record Mild (F : Form) (S : List ℕ) (e : Ending) : Type 0 where
-  pub format : endingNumber e ≢ 1
-  pub lengths : endingNumber e ≡ 2 → length S % F .n ≢ 0
-  pub state : endingNumber e ≢ 3
-  pub copies : endingNumber e ≢ 10
+abbrev pub Mild : Form → List ℕ → Ending → Type 0
+Mild F S e = All (λ k. endingNumber e ≢ k) (1 ∷ 3 ∷ 10 ∷ []) × (endingNumber e ≡ 2 → length S % F .n ≢ 0)
 
-pub record Demand3
-    (F : Form) (opening : Count) (record₀ S : List ℕ) (ys : List Ran) (σ : State) (h : History)
-    : Type 0 where
-  pub order : Order F record₀ (story ys) (h .records) (h .attempts)
-  pub spans : All (Span (countSteps F) opening (story ys) (h .counts)) (h .countReads)
+pub record Demand3 (F : Form) (c : Count) (record₀ S : List ℕ) (ys : List Ran) (σ : State) (h : History) : Type 0 where
+  pub order : Order F record₀ (story ys) h
+  pub spans : All (Span (countSteps F) c (story ys) (h .counts)) (h .countReads)
   pub undisturbed : All (Undisturbed (recordSteps F) (story ys) (h .records)) (h .attempts)
   pub time : length (story ys) ≡ h .now
   pub explained : (t : ℕ) → 1 ≤ t → t ≤ h .now → Explained h t (outcomeAt (story ys) t)

@@ -2,7 +2,7 @@
 -- ended as record accepted. It names no page, writer, reader or buffer. Lists are latest first; a step is known by the
 -- number of its command.
 use mathlib.Core.List.{List, [], _∷_, _++_}
-use mathlib.Core.Bool.{Bool, true, false, cond}
+use mathlib.Core.Bool.{Bool, false, cond}
 use Prim.Native.Nat.{ℕ, suc, _+_, _*_}
 use lib.Dec.{eqb, ltb}
 use lib.ListN.{length, getD, set, replicate}
@@ -66,15 +66,8 @@ pub record History : Type 0 where
 
 abbrev pub historyOf :
     ℕ → Pending → List (Write Count) → List (Write Placed) → List Read → List CountRead → List Attempt → History
-historyOf t x cs rs ms xs ys = record {
-  now = t;
-  pending = x;
-  counts = cs;
-  records = rs;
-  reads = ms;
-  countReads = xs;
-  attempts = ys;
-}
+historyOf t x cs rs ms xs ys =
+    record { now = t; pending = x; counts = cs; records = rs; reads = ms; countReads = xs; attempts = ys }
 
 unfoldable pub fresh : Form → History
 fresh F = historyOf 0 none [] [] (replicate (F .readers) Read.none) [] []
@@ -120,11 +113,9 @@ readerSteps F h r acc (ofCount ts) =
     (read h r (ofCount us) (h .countReads) (h .attempts))
 readerSteps F h r acc (ofRecord a es ts) =
     let us = suc (h .now) ∷ ts in
-    cond (eqb (length us) (recordSteps F))
-    (read h r
-    (cond acc none (cond (ltb (length us + length es) (a * recordSteps F)) (ofRecord a (us ++ es) []) none))
-    (h .countReads)
-    (record { reader = r; allowed = a; earlier = es; steps = us; accepted = acc } ∷ h .attempts))
+    let y : Attempt = record { reader = r; allowed = a; earlier = es; steps = us; accepted = acc } in
+    let again : Read = cond (ltb (length us + length es) (a * recordSteps F)) (ofRecord a (us ++ es) []) none in
+    cond (eqb (length us) (recordSteps F)) (read h r (cond acc none again) (h .countReads) (y ∷ h .attempts))
     (read h r (ofRecord a es us) (h .countReads) (h .attempts))
 
 -- one command carried out

@@ -9,7 +9,7 @@ abbrev pub range : ℕ → ℕ → List ℕ
 range a zero = []
 range a (suc n) = a ∷ range (suc a) n
 
-abbrev pub concat : List (List ℕ) → List ℕ
+abbrev pub concat : {A : Type 0} → List (List A) → List A
 concat [] = []
 concat (l ∷ ls) = l ++ concat ls
 
@@ -20,6 +20,11 @@ every test (x ∷ xs) = test x && every test xs
 abbrev pub All : {A : Type 0} → (A → Type 0) → List A → Type 0
 All P [] = Unit {0}
 All P (x ∷ xs) = P x × All P xs
+
+-- R holds of each element and every one that stands behind it
+abbrev pub Pairwise : {A : Type 0} → (A → A → Type 0) → List A → Type 0
+Pairwise R [] = Unit {0}
+Pairwise R (x ∷ xs) = All (R x) xs × Pairwise R xs
 
 abbrev pub Any : {A : Type 0} → (A → Type 0) → List A → Type 0
 Any P [] = ⊥

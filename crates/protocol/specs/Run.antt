@@ -1,6 +1,6 @@
 -- The opening, the run of bytes, the list of runs.
 use mathlib.Core.List.{List, [], _∷_, _++_, map}
-use mathlib.Core.Bool.{Bool, _&&_, not, cond}
+use mathlib.Core.Bool.{_&&_, not, cond}
 use Prim.Native.Nat.{ℕ, zero, suc, _-_, _%_}
 use lib.Dec.{eqb, ltb, leb}
 use lib.ListN.{length, drop}

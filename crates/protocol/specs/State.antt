@@ -53,12 +53,9 @@ busyReading idle = false
 busyReading (ofCount ds) = true
 busyReading (ofRecord a f s ds) = true
 
--- the same state but for the writer; and for one digit of the page; and for one reader
+-- the same state but for the writer; but for one reader
 abbrev pub withWriting : State → Writing → State
 withWriting σ w = stateOf (σ .page) w (σ .readings) (σ .buffers)
-
-abbrev pub withDigit : State → Writing → (position digit : ℕ) → State
-withDigit σ w p d = stateOf (set (σ .page) p d) w (σ .readings) (σ .buffers)
 
 abbrev pub withReader : State → ℕ → Reading → List ℕ → State
 withReader σ r x b = stateOf (σ .page) (σ .writing) (set (σ .readings) r x) (set (σ .buffers) r b)

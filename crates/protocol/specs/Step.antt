@@ -4,7 +4,6 @@ use mathlib.Core.Bool.{Bool, _&&_, _||_, not, cond}
 use Prim.Native.Nat.{ℕ, suc, _+_, _*_, _-_}
 use lib.Dec.{eqb, ltb, leb}
 use lib.ListN.{length, take, drop, getD, set, replicate}
-use Rattle.radix.specs.declared.Count.{Count}
 use Rattle.radix.specs.declared.Comparison.{Comparison}
 use Rattle.radix.specs.declared.Comparison.the-variants.{Equal, Parted, Crossed}
 use Rattle.radix.specs.Digits.{product, value}
@@ -31,12 +30,12 @@ use Rattle.protocol.specs.State.{
   ofCount,
   ofRecord,
   State,
+  stateOf,
   readingOf,
   bufferOf,
   busyWriting,
   busyReading,
   withWriting,
-  withDigit,
   withReader,
 }
 use Rattle.protocol.specs.declared.Command.{Command}
@@ -82,18 +81,17 @@ inRecords F S i = leb (suc i * F .n) (length S)
 abbrev pub onward : ℕ → ℕ → Writing → Writing
 onward size k next = cond (eqb (suc k) size) resting next
 
+-- step k of a write: digit k goes to position k of the order, and the writer is at w then
+abbrev pub moves : State → Writing → (order digits : List ℕ) → ℕ → Answer
+moves σ w order digits k =
+    done (stateOf (set (σ .page) (getD order k 0) (getD digits k 0)) w (σ .readings) (σ .buffers)) Nothing
+
 unfoldable pub stepWriter : Form → List ℕ → State → Writing → Answer
 stepWriter F S σ resting = refused NothingPending
 stepWriter F S σ (aCount c k) =
-    done
-    (withDigit σ (onward (countSteps F) k (aCount c (suc k))) (getD (countOrder F) k 0)
-    (getD (countDigits F (c .0)) k 0))
-    Nothing
+    moves σ (onward (countSteps F) k (aCount c (suc k))) (countOrder F) (countDigits F (c .0)) k
 stepWriter F S σ (aRecord v i k) =
-    done
-    (withDigit σ (onward (recordSteps F) k (aRecord v i (suc k))) (getD (recordOrder F) k 0)
-    (getD (recordDigits F (v .0) (recordAt F S i)) k 0))
-    Nothing
+    moves σ (onward (recordSteps F) k (aRecord v i (suc k))) (recordOrder F) (recordDigits F (v .0) (recordAt F S i)) k
 
 -- A READER: what it does with the one digit that it read. It sees no page, no writer and no other reader.
 
@@ -125,24 +123,22 @@ endCount F r buffer a b Crossed = refused CopiesCrossed
 -- the last step of an attempt: v2 was read left to right, v1 right to left
 unfoldable pub endAttempt : Form → (reader allowed finished : ℕ) → List ℕ → List ℕ → Gathered
 endAttempt F r allowed finished buffer ds =
-    cond (eqb (value (versionBases F) (copyB (F .q) ds)) (value (versionBases F) (copyA (F .q) ds)))
-    (gathered idle buffer (Accepted r (suc finished) (record { 0 = value (versionBases F) (copyB (F .q) ds) })))
-    (cond (ltb (suc finished) allowed)
-    (gathered (ofRecord allowed (suc finished) 0 []) buffer Nothing)
+    let v = value (versionBases F) (copyB (F .q) ds) in
+    cond (eqb v (value (versionBases F) (copyA (F .q) ds)))
+    (gathered idle buffer (Accepted r (suc finished) (record { 0 = v })))
+    (cond (ltb (suc finished) allowed) (gathered (ofRecord allowed (suc finished) 0 []) buffer Nothing)
     (gathered idle (replicate (F .n) 0) (GaveUp r (suc finished))))
 
 unfoldable pub gather : Form → (reader digit : ℕ) → Reading → List ℕ → Gathered
 gather F r d idle buffer = refused NothingPending
 gather F r d (ofCount ds) buffer =
-    cond (ltb (suc (length ds)) (countSteps F))
-    (gathered (ofCount (d ∷ ds)) buffer Nothing)
-    (endCount F r buffer (copyA (m F) (d ∷ ds)) (copyB (m F) (d ∷ ds))
-    (compare (copyA (m F) (d ∷ ds)) (copyB (m F) (d ∷ ds))))
+    let a = copyA (m F) (d ∷ ds) in
+    let b = copyB (m F) (d ∷ ds) in
+    cond (ltb (suc (length ds)) (countSteps F)) (gathered (ofCount (d ∷ ds)) buffer Nothing)
+    (endCount F r buffer a b (compare a b))
 gather F r d (ofRecord a f s ds) buffer =
-    cond (leb (F .q) s && ltb s (F .q + F .n))
-    (gathered (ofRecord a f (suc s) ds) (set buffer (s - F .q) d) Nothing)
-    (cond (ltb (suc s) (recordSteps F))
-    (gathered (ofRecord a f (suc s) (d ∷ ds)) buffer Nothing)
+    cond (leb (F .q) s && ltb s (F .q + F .n)) (gathered (ofRecord a f (suc s) ds) (set buffer (s - F .q) d) Nothing)
+    (cond (ltb (suc s) (recordSteps F)) (gathered (ofRecord a f (suc s) (d ∷ ds)) buffer Nothing)
     (endAttempt F r a f buffer (d ∷ ds)))
 
 unfoldable pub onGathered : State → ℕ → Gathered → Answer

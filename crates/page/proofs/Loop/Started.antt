@@ -112,7 +112,7 @@ unfolding storedReading
 idle-readers F zero = refl
 idle-readers F (suc k) = ap (λ (l : List _). idleReader ∷ l) (idle-readers F k)
 
-zeros : (k n : ℕ) → concat (replicate k (replicate n 0)) ≡ replicate (k * n) 0
+zeros : (k n : ℕ) → concat {A = ℕ} (replicate k (replicate n 0)) ≡ replicate (k * n) 0
 zeros zero n = ap (λ m. replicate m 0) (sym (zero-mul n))
 zeros (suc k) n =
     let e : n + k * n ≡ suc k * n = omega (arith, suc-mul k n) in

@@ -5,7 +5,7 @@ use mathlib.Core.Bool.{Bool, false, cond}
 use Prim.Native.Nat.{ℕ}
 use lib.ListN.{length, set, length-set}
 use Rattle.protocol.specs.Form.{Form}
-use Rattle.protocol.specs.State.{Writing, Reading, State, withWriting, withDigit, withReader}
+use Rattle.protocol.specs.State.{Writing, Reading, State, stateOf, withWriting, withReader}
 use Rattle.protocol.specs.Step.{Answer, refused, done}
 use Rattle.protocol.specs.declared.Refusal.{Refusal}
 use Rattle.protocol.proofs.Lists.Cases.{by-cond, all-set}
@@ -39,7 +39,7 @@ module _ (F : Form) (S : List ℕ) where
     }
 
     pub fine-digit : (w : Writing) (p d : ℕ) → GoodWriting F S w → GoodPage F (set (σ .page) p d)
-        → Fine F S (withDigit σ w p d)
+        → Fine F S (stateOf (set (σ .page) p d) w (σ .readings) (σ .buffers))
     fine-digit w p d g page = record {
       sized = record {
         page = length-set (σ .page) p d ∙ fine .sized .page;

@@ -4,7 +4,7 @@ use mathlib.Core.Logic.{_≢_, inl, inr}
 use mathlib.Core.List.{List, [], _∷_, _++_}
 use mathlib.Core.Bool.{true, false}
 use Prim.Native.Nat.{ℕ, suc, _+_, _*_, _<_}
-use lib.Dec.{eqb, ltb}
+use lib.Dec.{ltb}
 use lib.ListN.{length, set, replicate, length-append, length-replicate}
 use lib.Seq.{getD-set-same}
 use borrow.Author.Tests.{eqb-true, eqb-false, eq-eqb, ltb-true, ltb-false}
@@ -15,6 +15,7 @@ use Rattle.protocol.specs.Outcome.{isAccepted}
 use Rattle.protocol.specs.Step.{Gathered, gathered, endAttempt, onGathered}
 use Rattle.protocol.specs.Run.{Event}
 use Rattle.protocol.specs.History.{Read, Attempt, History, readerSteps}
+use Rattle.protocol.specs.Demand.{bothIdle, bothRecord}
 use Rattle.protocol.specs.declared.Outcome.{Outcome}
 use Rattle.protocol.specs.declared.Outcome.the-variants.{Nothing, Accepted, GaveUp}
 use Rattle.protocol.proofs.Lists.Cases.{by-cond}
@@ -96,8 +97,8 @@ module _ (F : Form) (x : Count) (r₀ S : List ℕ) (ok : Proper F r₀) (tale :
         let y : Attempt = tried (h .now) r a es ts true in
         let G : List Mark = mark r (z .moment) (suc (h .now)) (inv .marks) in
         rw (eq-eqb (suc (length ts)) (recordSteps F) full)
-        (reader-inv F x r₀ S ok tale σ h inv r reader o idle Read.none buffer (h .countReads) (y ∷ h .attempts) G tt
-        (record { reads = λ i t q. q; attempts = λ i t q. inr q }) (inl (refl, refl))
+        (reader-inv F x r₀ S ok tale σ h inv r reader o idle Read.none buffer (h .countReads) (y ∷ h .attempts) G
+        bothIdle (record { reads = λ i t q. q; attempts = λ i t q. inr q }) (inl (refl, refl))
         (counts-on F x r₀ S ok tale σ h inv r reader o idle Read.none buffer tt)
         (records-end o idle Read.none buffer y G size
         (keeps-mark (h .now) (inv .marks) r (z .moment) (suc (h .now))) tt
@@ -118,13 +119,9 @@ module _ (F : Form) (x : Count) (r₀ S : List ℕ) (ok : Proper F r₀) (tale :
         let more : suc f < a = ltb-true (suc f) a e in
         rw (eq-eqb (suc (length ts)) (recordSteps F) full, another F a f es ts before full true e)
         (reader-inv F x r₀ S ok tale σ h inv r reader Nothing st rd buffer (h .countReads) (y ∷ h .attempts)
-        (inv .marks) (
-          refl,
-          length-append (suc (h .now) ∷ ts) es ∙ sym (used-steps F a f es ts before full),
-          refl,
-          steps-some ok,
-          more,
-        )
+        (inv .marks)
+        (bothRecord
+        (length-append (suc (h .now) ∷ ts) es ∙ sym (used-steps F a f es ts before full)) refl (steps-some ok) more)
         (record { reads = λ i t q. q; attempts = λ i t q. inr q }) tt
         (counts-on F x r₀ S ok tale σ h inv r reader Nothing st rd buffer tt)
         (records-end Nothing st rd buffer y (inv .marks) size (keeps-same _ (h .now) (inv .marks))
@@ -144,7 +141,7 @@ module _ (F : Form) (x : Count) (r₀ S : List ℕ) (ok : Proper F r₀) (tale :
         let y : Attempt = tried (h .now) r a es ts false in
         rw (eq-eqb (suc (length ts)) (recordSteps F) full, another F a f es ts before full false e)
         (reader-inv F x r₀ S ok tale σ h inv r reader o idle Read.none b (h .countReads) (y ∷ h .attempts)
-        (inv .marks) tt (record { reads = λ i t q. q; attempts = λ i t q. inr q }) (inl (refl, refl))
+        (inv .marks) bothIdle (record { reads = λ i t q. q; attempts = λ i t q. inr q }) (inl (refl, refl))
         (counts-on F x r₀ S ok tale σ h inv r reader o idle Read.none b tt)
         (records-end o idle Read.none b y (inv .marks) (length-replicate (F .n) 0)
         (keeps-same _ (h .now) (inv .marks)) tt

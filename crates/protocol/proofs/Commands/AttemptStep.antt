@@ -16,7 +16,7 @@ use Rattle.protocol.specs.Outcome.{isAccepted}
 use Rattle.protocol.specs.Step.{Gathered, gathered, gather, onGathered}
 use Rattle.protocol.specs.Run.{Event}
 use Rattle.protocol.specs.History.{Read, History, read, readerSteps}
-use Rattle.protocol.specs.Demand.{Agree}
+use Rattle.protocol.specs.Demand.{Agree, bothRecord}
 use Rattle.protocol.specs.declared.Outcome.the-variants.{Nothing}
 use Rattle.protocol.proofs.Lists.Cases.{by-cond, both}
 use Rattle.protocol.proofs.Orders.Marks.{Mark, pending}
@@ -71,7 +71,7 @@ module _ (F : Form) (x : Count) (r₀ S : List ℕ) (ok : Proper F r₀) (tale :
   unfinished st b l i = rw (ne-eqb (suc (length ts)) (recordSteps F) (omega (arith, trying .same))) i
 
   agree : (ds′ : List ℕ) → suc s < recordSteps F → Agree F (ofRecord a f (suc s) ds′) (Read.ofRecord a es us)
-  agree ds′ l = (refl, before, ap suc (trying .same), l, fa)
+  agree ds′ l = bothRecord before (ap suc (trying .same)) l fa
 
   reads-v2 : s < F .q → Comes (gathered (ofRecord a f (suc s) (d ∷ ds)) buffer Nothing)
   reads-v2 g = go (ltb (suc s) (F .q)) refl

@@ -1,5 +1,4 @@
 -- ONE COMMAND keeps the invariant, or is refused mildly.
-use mathlib.Core.Path.{subst}
 use mathlib.Core.List.{List}
 use mathlib.Core.Bool.{_||_}
 use Prim.Native.Nat.{ℕ, _<_}
@@ -9,11 +8,11 @@ use lib.ListN.{getD}
 use borrow.Author.Tests.{leb-false, eqb-false}
 use Rattle.radix.specs.declared.Count.{Count}
 use Rattle.protocol.specs.Form.{Form}
-use Rattle.protocol.specs.State.{Reading, idle, ofCount, ofRecord, State, readingOf, bufferOf, busyReading}
+use Rattle.protocol.specs.State.{Reading, State, readingOf, bufferOf, busyReading}
 use Rattle.protocol.specs.Step.{nextPosition, gather, onGathered, carry}
 use Rattle.protocol.specs.Run.{Event}
 use Rattle.protocol.specs.History.{Read, History, readerSteps, carried}
-use Rattle.protocol.specs.Demand.{Agree}
+use Rattle.protocol.specs.Demand.{Agree, bothIdle, bothCount, bothRecord}
 use Rattle.protocol.specs.declared.Command.{Command}
 use Rattle.protocol.specs.declared.Command.the-variants.{
   WriteCount,
@@ -46,21 +45,11 @@ module _ (F : Form) (x : Count) (r₀ S : List ℕ) (ok : Proper F r₀) (tale :
       GoesTo F x r₀ S tale (λ acc. readerSteps F h r acc rd)
       (onGathered σ r (gather F r (getD (σ .page) (nextPosition F st) 0) st (bufferOf σ r)))
   unfolding gather onGathered
-  steps-reader r reader idle rd agree c k = mild F S (Refused NothingPending) (omega arith) (omega arith)
-  steps-reader r reader (ofCount ds) Read.none agree c k = absurd agree
-  steps-reader r reader (ofCount ds) (Read.ofCount ts) agree c k =
-      steps-count F x r₀ S ok tale σ h inv r reader ds ts c (agree .1)
-  steps-reader r reader (ofCount ds) (Read.ofRecord a es ts) agree c k = absurd agree
-  steps-reader r reader (ofRecord a f s ds) Read.none agree c k = absurd agree
-  steps-reader r reader (ofRecord a f s ds) (Read.ofCount ts) agree c k = absurd agree
-  steps-reader r reader (ofRecord a f s ds) (Read.ofRecord b es ts) agree c k =
-      subst
-      (λ (b : ℕ).
-      GoesTo F x r₀ S tale (λ acc. readerSteps F h r acc (Read.ofRecord b es ts))
-      (onGathered σ r
-      (gather F r (getD (σ .page) (nextPosition F (ofRecord a f s ds)) 0) (ofRecord a f s ds) (bufferOf σ r))))
-      (agree .0)
-      (steps-attempt F x r₀ S ok tale σ h inv r reader a f s ds es ts k (agree .3) (agree .1) (agree .4))
+  steps-reader r reader st rd bothIdle c k = mild F S (Refused NothingPending) (omega arith) (omega arith)
+  steps-reader r reader st rd (bothCount {ds} {ts} same low) c k =
+      steps-count F x r₀ S ok tale σ h inv r reader ds ts c low
+  steps-reader r reader st rd (bothRecord {a} {f} {s} {ds} {es} {ts} before same low more) c k =
+      steps-attempt F x r₀ S ok tale σ h inv r reader a f s ds es ts k low before more
 
   pub one-command : (c : Command) → Goes F x r₀ S tale h c (carry F S σ c)
   unfolding carry carried

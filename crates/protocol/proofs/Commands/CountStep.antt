@@ -20,7 +20,7 @@ use Rattle.protocol.specs.Outcome.{isAccepted}
 use Rattle.protocol.specs.Step.{Gathered, copyA, copyB, shows, endCount, gather, onGathered}
 use Rattle.protocol.specs.Run.{Event}
 use Rattle.protocol.specs.History.{Read, CountRead, History, readerSteps}
-use Rattle.protocol.specs.Demand.{firstOf, lastOf, writtenBefore, begunBefore, latest}
+use Rattle.protocol.specs.Demand.{bothIdle, bothCount, firstOf, lastOf, writtenBefore, begunBefore, latest}
 use Rattle.protocol.specs.declared.Outcome.{Outcome}
 use Rattle.protocol.specs.declared.Outcome.the-variants.{Shown}
 use Rattle.protocol.proofs.Lists.Cases.{by-cond}
@@ -75,7 +75,7 @@ module _ (F : Form) (x : Count) (r₀ S : List ℕ) (ok : Proper F r₀) (tale :
         let e : Event = event σ r idle buffer o in
         rw (eq-eqb (suc (length ts)) (countSteps F) (omega (arith, counting .same)))
         (reader-inv F x r₀ S ok tale σ h inv r reader o idle Read.none buffer (y ∷ h .countReads) (h .attempts)
-        (inv .marks) tt (record { reads = λ i t q. inr q; attempts = λ i t q. q }) (inl (refl, refl))
+        (inv .marks) bothIdle (record { reads = λ i t q. inr q; attempts = λ i t q. q }) (inl (refl, refl))
         (count-reader F x (ok .places) tale (h .now) (σ .page) (countBusy (h .pending)) (h .counts) (σ .readings)
         (h .reads) (h .countReads) (inv .counts) e (inv .time) r idle Read.none (y ∷ h .countReads)
         (at-readings F x r₀ S ok tale σ h inv r reader) (at-reads F x r₀ S ok tale σ h inv r reader) tt (
@@ -113,8 +113,8 @@ module _ (F : Form) (x : Count) (r₀ S : List ℕ) (ok : Proper F r₀) (tale :
       (λ a.
       let l : suc (length ds) < countSteps F = ltb-true (suc (length ds)) (countSteps F) a in
       rw (ne-eqb (suc (length ts)) (countSteps F) (omega (arith, counting .same)))
-      (goes-on F x r₀ S ok tale σ h inv r reader (ofCount ds′) (Read.ofCount us) buffer (ap suc (counting .same), l)
-      (inv .records .buffered r reader) more tt))
+      (goes-on F x r₀ S ok tale σ h inv r reader (ofCount ds′) (Read.ofCount us) buffer
+      (bothCount (ap suc (counting .same)) l) (inv .records .buffered r reader) more tt))
       (λ a.
       let full : suc (length ds) ≡ countSteps F = omega (arith, ltb-false (suc (length ds)) (countSteps F) a) in
       ends-count full (compare (copyA (m F) ds′) (copyB (m F) ds′))

@@ -103,7 +103,7 @@ module _ (F : Form) (x : Count) (r₀ S : List ℕ) where
 -- refusals other than 1, 2, 3 and 10
 pub mild : (F : Form) (S : List ℕ) (e : Ending) → 3 < endingNumber e → endingNumber e ≢ 10 → Mild F S e
 mild F S e h n =
-    record { format = omega arith; lengths = λ q. absurd (omega arith); state = omega arith; copies = n }
+    ((omega arith, (omega arith, (n, tt))), λ q. absurd (omega arith))
 
 -- OUTCOMES EXPLAINED
 

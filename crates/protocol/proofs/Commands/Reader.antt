@@ -16,7 +16,7 @@ use Rattle.protocol.specs.Outcome.{isAccepted}
 use Rattle.protocol.specs.Step.{begins}
 use Rattle.protocol.specs.Run.{Event}
 use Rattle.protocol.specs.History.{Read, CountRead, Attempt, History, read, carried}
-use Rattle.protocol.specs.Demand.{Agree, Explained}
+use Rattle.protocol.specs.Demand.{Agree, bothIdle, bothCount, bothRecord, Explained}
 use Rattle.protocol.specs.declared.Command.the-variants.{BeginCountRead, BeginRecordRead, Cancel}
 use Rattle.protocol.specs.declared.Outcome.{Outcome}
 use Rattle.protocol.specs.declared.Outcome.the-variants.{Nothing}
@@ -139,7 +139,7 @@ module _ (F : Form) (x : Count) (r₀ S : List ℕ) (ok : Proper F r₀) (tale :
   pub begins-count-read : Goes F x r₀ S tale h (BeginCountRead r) (begins σ r (ofCount []))
   unfolding carried isAccepted
   begins-count-read =
-      goes-on (ofCount []) (Read.ofCount []) (bufferOf σ r) (refl, omega (arith, ok .places))
+      goes-on (ofCount []) (Read.ofCount []) (bufferOf σ r) (bothCount refl (omega (arith, ok .places)))
       (inv .records .buffered r reader)
       (record { same = refl; desc = Desc.none; fell = λ h p e. absurd (omega arith) }) tt
 
@@ -148,9 +148,9 @@ module _ (F : Form) (x : Count) (r₀ S : List ℕ) (ok : Proper F r₀) (tale :
   unfolding carried isAccepted
   begins-record-read a some =
       goes-on (ofRecord a 0 0 []) (Read.ofRecord a [] []) (bufferOf σ r)
-      (refl, sym (zero-mul (recordSteps F)), refl, steps-some ok, some) (inv .records .buffered r reader) tt
+      (bothRecord (sym (zero-mul (recordSteps F))) refl (steps-some ok) some) (inv .records .buffered r reader) tt
       (try-begin F r₀ (suc (h .now)) (recordsAt r₀ h) (h .records) (inv .marks) r (bufferOf σ r) (ok .versions))
 
   pub cancels : Goes F x r₀ S tale h (Cancel r) (begins σ r idle)
   unfolding carried isAccepted
-  cancels = goes-on idle Read.none (bufferOf σ r) tt (inv .records .buffered r reader) tt tt
+  cancels = goes-on idle Read.none (bufferOf σ r) bothIdle (inv .records .buffered r reader) tt tt

@@ -4,12 +4,12 @@ use mathlib.Core.List.{List, [], _∷_, _++_}
 use mathlib.Core.Bool.{Bool, true, false}
 use Prim.Native.Nat.{ℕ, suc}
 use native.Mathlib.Omega.{arith}
-use lib.ListN.{length, getD, length-set}
+use lib.ListN.{length, getD, set, length-set}
 use borrow.Author.Tests.{eq-eqb, ne-eqb, ltb-true, ltb-false}
 use Rattle.radix.specs.declared.Count.{Count}
 use Rattle.protocol.specs.Form.{Form, countSteps, recordSteps}
 use Rattle.protocol.specs.Layout.{countOrder, countDigits, recordOrder, recordDigits}
-use Rattle.protocol.specs.State.{Writing, resting, aCount, aRecord, Reading, State, withDigit}
+use Rattle.protocol.specs.State.{Writing, resting, aCount, aRecord, Reading, State, stateOf}
 use Rattle.protocol.specs.Outcome.{isAccepted}
 use Rattle.protocol.specs.Step.{recordAt, stepWriter}
 use Rattle.protocol.specs.Run.{Event}
@@ -71,16 +71,20 @@ module _ (F : Form) (x : Count) (r₀ S : List ℕ) (ok : Proper F r₀) (tale :
   abbrev countEvent : Write Count → Writing → Event
   countEvent p w = record {
     after =
-        withDigit (state resting) w (getD (countOrder F) (length (p .steps)) 0)
-        (getD (countDigits F (p .what .0)) (length (p .steps)) 0);
+        stateOf
+        (set page (getD (countOrder F) (length (p .steps)) 0)
+        (getD (countDigits F (p .what .0)) (length (p .steps)) 0))
+        w readings buffers;
     outcome = Nothing;
   }
 
   abbrev recordEvent : Write Placed → Writing → Event
   recordEvent p w = record {
     after =
-        withDigit (state resting) w (getD (recordOrder F) (length (p .steps)) 0)
-        (getD (recordDigits F (number (p .what)) (p .what .content)) (length (p .steps)) 0);
+        stateOf
+        (set page (getD (recordOrder F) (length (p .steps)) 0)
+        (getD (recordDigits F (number (p .what)) (p .what .content)) (length (p .steps)) 0))
+        w readings buffers;
     outcome = Nothing;
   }
 

@@ -27,7 +27,7 @@ use Rattle.protocol.proofs.Lists.Cases.{by-cond, all-map}
 use Rattle.protocol.proofs.Lists.Places.{look-is}
 use Rattle.protocol.proofs.Lists.Tale.{snoc-old}
 use Rattle.protocol.proofs.Positions.Counts.{countRead, countDigitLow, countLow, count-apart, count-below}
-use Rattle.protocol.proofs.Items.Times.{Desc, desc-le, desc-now, first-le}
+use Rattle.protocol.proofs.Items.Times.{Desc, desc-le, desc-now, first-le, first-more}
 use Rattle.protocol.proofs.Items.Writes.{
   on,
   still,
@@ -136,9 +136,10 @@ module _ (F : Form) (x : Count) where
       gather-fell [] (t ∷ ts) h p d e q = absurd (omega (arith, h .same))
       gather-fell (a ∷ ds) [] h p d e q = absurd (omega (arith, h .same))
       gather-fell (a ∷ ds) (t ∷ ts) h p d e q =
-          Fell.more q (le-refl _)
+          rw (first-more (suc now) (t ∷ ts) (omega arith))
+          (Fell.more q (le-refl _)
           (fell-up (cur-falls num (countSteps F) x sizePos now b ps fit p (suc p) (omega arith))
-          (h .fell (omega arith) (suc p) (omega arith)))
+          (h .fell (omega arith) (suc p) (omega arith))))
 
       pub gathers : (page ds ts : List ℕ) → Holds (countSteps F) (countOrder F) (countDigits F) page (cur num b x ps)
           → Counting now (cur num b x ps) ps ds ts

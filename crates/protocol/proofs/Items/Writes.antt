@@ -13,7 +13,7 @@ use Rattle.protocol.specs.Lists.{All}
 use Rattle.protocol.specs.History.{Write, begun}
 use Rattle.protocol.specs.Demand.{lastOf, firstOf, writtenBefore, begunBefore, latest}
 use Rattle.protocol.proofs.Lists.Cases.{by-cond, all-map}
-use Rattle.protocol.proofs.Items.Times.{Desc, none, desc-le, desc-now, first-le, last-le}
+use Rattle.protocol.proofs.Items.Times.{Desc, none, desc-le, desc-now, first-le, last-le, first-more}
 
 module _ {A : Type 0} where
   abbrev pub Full : ℕ → ℕ → Write A → Type 0
@@ -187,7 +187,12 @@ module _ {A : Type 0} (num : A → ℕ) where
             (latest (begunBefore t) x ps))
             ≡ num (cond (ltb 0 (length ss) && ltb (firstOf ss) t) (p .what) (latest (begunBefore t) x ps))
         go [] = rw (le-ltb (suc now) t (omega arith))
-        go (u ∷ ss) = rw (lt-ltb 0 (suc (suc (length ss))) (omega arith), lt-ltb 0 (suc (length ss)) (omega arith))
+        go (u ∷ ss) =
+            rw (
+              first-more (suc now) (u ∷ ss) (omega arith),
+              lt-ltb 0 (suc (suc (length ss))) (omega arith),
+              lt-ltb 0 (suc (length ss)) (omega arith),
+            )
 
     pub step-grow : (now : ℕ) (p : Write A) (ps : List (Write A)) → Fit size now x true (p ∷ ps) → (t : Bool)
         → still size p ≡ t

@@ -1,13 +1,13 @@
 -- What stays true of the order in the making when an attempt is accepted.
 use mathlib.Core.Path.{_≡_, sym}
-use mathlib.Core.Logic.{_⊎_, inl, inr}
+use mathlib.Core.Logic.{_≢_, inl, inr}
 use mathlib.Core.List.{List, [], _∷_}
 use Prim.Native.Nat.{ℕ, _≤_, _<_}
 use native.Mathlib.Omega.{arith}
-use Rattle.protocol.specs.Lists.{All, Any}
-use Rattle.protocol.specs.Demand.{Act, wrote, took, Moment, Once, Ordered}
+use Rattle.protocol.specs.Lists.{All, Pairwise, Any}
+use Rattle.protocol.specs.Demand.{Act, wrote, took, Moment}
 use Rattle.protocol.proofs.Lists.Cases.{by-cond, all-map}
-use Rattle.protocol.proofs.Orders.Marks.{Mark, fixed, pending, timeOf, keep, tookAt, hit, mark, hit-true}
+use Rattle.protocol.proofs.Orders.Marks.{Once, Mark, fixed, pending, timeOf, keep, tookAt, hit, mark, hit-true}
 
 -- the command u is new
 abbrev pub Older : ℕ → Act → Type 0
@@ -38,35 +38,19 @@ module _ (r t u : ℕ) where
   mark-any P (pending i k ∷ G) h =
       by-cond (λ L. Any P (keep L)) (hit r t i k) (λ e. inr h) (λ e. mark-any P G h)
 
-  mark-any-back :
-      (P : Moment → Type 0) (G : List Mark) → (P (tookAt u t) → ⊥) → Any P (keep (mark r t u G)) → Any P (keep G)
-  unfolding mark
-  mark-any-back P [] n h = h
-  mark-any-back P (fixed a ∷ G) n (inl h) = inl h
-  mark-any-back P (fixed a ∷ G) n (inr h) = inr (mark-any-back P G n h)
-  mark-any-back P (pending i k ∷ G) n h =
-      (by-cond (λ L. Any P (keep L) → Any P (keep G)) (hit r t i k) (λ e. new) (λ e. mark-any-back P G n)) h
-    where
-      new : P (tookAt u t) ⊎ Any P (keep G) → Any P (keep G)
-      new (inl h) = absurd (n h)
-      new (inr h) = h
-
-  not-older : (x : Act) → Older u x → x ≡ took u → ⊥
+  not-older : (x : Act) → Older u x → x ≢ took u
   not-older (wrote i) h e = let z : _≡_ {A = ℕ} 0 1 = cc in omega arith
   not-older (took w) h e = let z : w ≡ u = cc in omega arith
-
-  older-not : (l : List Moment) → All (λ a. Older u (a .act)) l → Any (λ b. took u ≡ b .act) l → ⊥
-  older-not [] h x = x
-  older-not (a ∷ l) h (inl e) = not-older (a .act) (h .0) (sym e)
-  older-not (a ∷ l) h (inr x) = older-not l (h .1) x
 
   pub mark-once : (G : List Mark) → All (λ a. Older u (a .act)) (keep G) → Once (keep G) → Once (keep (mark r t u G))
   unfolding mark
   mark-once [] o h = tt
   mark-once (fixed a ∷ G) o h =
-      (λ x. h .0 (mark-any-back (λ b. a .act ≡ b .act) G (not-older (a .act) (o .0)) x), mark-once G (o .1) (h .1))
+      (mark-kept (λ b. a .act ≢ b .act) G (not-older (a .act) (o .0)) (h .0), mark-once G (o .1) (h .1))
   mark-once (pending i k ∷ G) o h =
-      by-cond (λ L. Once (keep L)) (hit r t i k) (λ e. (older-not (keep G) o, h)) (λ e. mark-once G o h)
+      by-cond (λ L. Once (keep L)) (hit r t i k)
+      (λ e. (all-map (keep G) (λ a l q. not-older (a .act) l (sym q)) o, h))
+      (λ e. mark-once G o h)
 
 -- moments fall along the list
 abbrev pub Sorted : List Mark → Type 0
@@ -91,7 +75,7 @@ mark-sorted r t u (pending i k ∷ G) h =
     (λ e. (all-map G (λ f l. omega (arith, hit-true r t i k e .1)) (h .0), h .1))
     (λ e. (mark-le r t u k G (h .0), mark-sorted r t u G (h .1)))
 
-pub sorted-kept : (G : List Mark) → Sorted G → Ordered (keep G)
+pub sorted-kept : (G : List Mark) → Sorted G → Pairwise (λ (a b : Moment). b .at ≤ a .at) (keep G)
 sorted-kept [] h = tt
 sorted-kept (fixed a ∷ G) h = (kept (a .at) G (h .0), sorted-kept G (h .1))
   where

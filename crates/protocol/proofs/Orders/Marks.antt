@@ -7,8 +7,16 @@ use Prim.Native.Nat.{ℕ}
 use lib.Dec.{eqb}
 use borrow.Author.Tests.{eqb-true, eq-eqb, ne-eqb}
 use Rattle.radix.specs.declared.Place.{Place}
-use Rattle.protocol.specs.Demand.{Act, wrote, took, Moment, lastWrite, lastPlace}
+use Rattle.protocol.specs.Lists.{Pairwise}
+use Rattle.protocol.specs.Demand.{Act, wrote, took, Moment, lastWrite}
 use Rattle.protocol.proofs.Lists.Cases.{by-cond, both}
+
+-- the order's last place, and that no act stands in it twice
+abbrev pub lastPlace : List Moment → Place
+lastPlace l = lastWrite (map (λ (a : Moment). a .act) l)
+
+abbrev pub Once : List Moment → Type 0
+Once l = Pairwise (λ a b. a .act ≢ b .act) l
 
 -- an act at its moment, or the moment of reader r's attempt
 pub data Mark : Type 0 where

@@ -1,11 +1,11 @@
 -- In an order without repetition the place before an accepted read is known.
 use mathlib.Core.Path.{_≡_, refl, sym}
-use mathlib.Core.Logic.{_⊎_, inl, inr}
+use mathlib.Core.Logic.{_⊎_, inl, inr, _≢_}
 use mathlib.Core.List.{List, [], _∷_, _++_}
 use Prim.Native.Nat.{ℕ}
-use Rattle.protocol.specs.Lists.{Any}
-use Rattle.protocol.specs.Demand.{Act, took, Moment, Once, Has, lastPlace}
-use Rattle.protocol.proofs.Orders.Marks.{Mark, fixed, pending, keep, tookAt, At, here, there}
+use Rattle.protocol.specs.Lists.{All}
+use Rattle.protocol.specs.Demand.{Act, took, Moment, Has}
+use Rattle.protocol.proofs.Orders.Marks.{lastPlace, Once, Mark, fixed, pending, keep, tookAt, At, here, there}
 
 pub at-has : (u k v : ℕ) (G : List Mark) → At (fixed (tookAt u k)) v G → Has (keep G) (took u)
 at-has u k v G (here e) = inl refl
@@ -23,20 +23,20 @@ module _ (u v : ℕ) where
   at-in k G (there {f = fixed a} {G = H} n x) = inr (at-in k H x)
   at-in k G (there {f = pending r t} {G = H} n x) = at-in k H x
 
-  in-any : (l : List Moment) → In l → Any (λ b. took u ≡ b .act) l
-  in-any (a ∷ l) (inl x) = inl (sym (x .0))
-  in-any (a ∷ l) (inr x) = inr (in-any l x)
+  not-in : (l : List Moment) → All (λ b. took u ≢ b .act) l → In l → ⊥
+  not-in (a ∷ l) h (inl x) = h .0 (sym (x .0))
+  not-in (a ∷ l) h (inr x) = not-in l (h .1) x
 
-  among :
-      (x : Act) → x ≡ took u → (later : List Moment) (k : ℕ) (l : List Moment) →
-      Any (λ b. x ≡ b .act) (later ++ (tookAt u k ∷ l))
-  among x e [] k l = inl e
-  among x e (a ∷ later) k l = inr (among x e later k l)
+  not-there :
+      (x : Act) (later : List Moment) (k : ℕ) (l : List Moment) → All (λ b. x ≢ b .act) (later ++ (tookAt u k ∷ l)) →
+      x ≢ took u
+  not-there x [] k l h = h .0
+  not-there x (a ∷ later) k l h = not-there x later k l (h .1)
 
   pub in-split :
       (later : List Moment) (k : ℕ) (earlier : List Moment) → Once (later ++ (tookAt u k ∷ earlier)) →
       In (later ++ (tookAt u k ∷ earlier)) → lastPlace earlier .0 ≡ v
   in-split [] k earlier o (inl x) = x .1
-  in-split [] k earlier o (inr x) = absurd (o .0 (in-any earlier x))
-  in-split (a ∷ later) k earlier o (inl x) = absurd (o .0 (among (a .act) (x .0) later k earlier))
+  in-split [] k earlier o (inr x) = absurd (not-in earlier (o .0) x)
+  in-split (a ∷ later) k earlier o (inl x) = absurd (not-there (a .act) later k earlier (o .0) (x .0))
   in-split (a ∷ later) k earlier o (inr x) = in-split later k earlier (o .1) x

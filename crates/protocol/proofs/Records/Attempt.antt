@@ -13,7 +13,7 @@ use borrow.Author.Tests.{ltb-true, ltb-false}
 use Rattle.protocol.specs.Form.{Form, recordSteps}
 use Rattle.protocol.specs.Layout.{recordOrder, recordDigits, attemptOrder}
 use Rattle.protocol.specs.History.{Write, Placed, placed}
-use Rattle.protocol.specs.Demand.{firstOf, lastPlace}
+use Rattle.protocol.specs.Demand.{firstOf}
 use Rattle.protocol.proofs.Items.Times.{desc-now, first-le, first-more}
 use Rattle.protocol.proofs.Items.Writes.{Fit, cur-falls, cur-last}
 use Rattle.protocol.proofs.Items.Seen.{Holds, Fell, fell-up}
@@ -25,7 +25,7 @@ use Rattle.protocol.proofs.Positions.Records.{
   recordDigitMid,
   recordDigitHigh,
 }
-use Rattle.protocol.proofs.Orders.Marks.{Mark, pending, keep, here}
+use Rattle.protocol.proofs.Orders.Marks.{lastPlace, Mark, pending, keep, here}
 use Rattle.protocol.proofs.Records.Numbered.{number, current, recordAs, Numbered, current-length, record-size}
 use Rattle.protocol.proofs.Records.Phase.{versionImage, wholeBefore, Bytes, Phase, early, middle, late, Trying}
 
@@ -102,8 +102,9 @@ module _ (F : Form) (r₀ : List ℕ) (pos : 0 < F .q) (posn : 0 < F .n) (size�
       fell-next s d [] (t ∷ ts) e l f p h q = absurd (omega arith)
       fell-next s d (a ∷ ds) [] e l f p h q = absurd (omega arith)
       fell-next s d (a ∷ ds) (t ∷ ts) e l f p h q =
-          Fell.more q (le-refl _)
-          (fell-up (falls p (suc p) (omega arith)) (f (omega arith) (suc p) (omega arith)))
+          rw (first-more (suc now) (t ∷ ts) (omega arith))
+          (Fell.more q (le-refl _)
+          (fell-up (falls p (suc p) (omega arith)) (f (omega arith) (suc p) (omega arith))))
 
       module _ (s : ℕ) (ds ts buffer : List ℕ) (h : Trying F r₀ now c ps G r s ds ts buffer) where
         abbrev d : ℕ

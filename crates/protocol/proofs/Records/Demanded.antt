@@ -6,12 +6,12 @@ use Prim.Native.Nat.{ℕ, _+_, _≤_, _<_}
 use native.Mathlib.Omega.{arith}
 use lib.Dec.{eqb, ltb}
 use lib.ListN.{length}
-use borrow.Author.Tests.{eqb-true, eq-eqb, ltb-true, lt-ltb}
+use borrow.Author.Tests.{eqb-true, ltb-true, lt-ltb}
 use Rattle.protocol.specs.Lists.{All}
 use Rattle.protocol.specs.Form.{Form, recordSteps}
 use Rattle.protocol.specs.State.{Reading}
 use Rattle.protocol.specs.Run.{Event}
-use Rattle.protocol.specs.History.{Write, Placed, placed, Read, Attempt}
+use Rattle.protocol.specs.History.{Write, Placed, placed, Attempt, History}
 use Rattle.protocol.specs.Demand.{
   lastOf,
   firstOf,
@@ -19,11 +19,9 @@ use Rattle.protocol.specs.Demand.{
   begunBefore,
   latest,
   outcomeAt,
-  Unfinished,
+  unfinished,
   Undisturbed,
   Moment,
-  Once,
-  lastPlace,
   Reports,
   Order,
   Ends,
@@ -31,7 +29,7 @@ use Rattle.protocol.specs.Demand.{
 }
 use Rattle.protocol.proofs.Lists.Cases.{all-map, both, together}
 use Rattle.protocol.proofs.Items.Times.{Desc, first-last}
-use Rattle.protocol.proofs.Orders.Marks.{Mark, fixed, keep, tookAt, At}
+use Rattle.protocol.proofs.Orders.Marks.{lastPlace, Once, Mark, fixed, keep, tookAt, At}
 use Rattle.protocol.proofs.Orders.Facts.{sorted-kept}
 use Rattle.protocol.proofs.Orders.Splits.{at-has, In, at-in, in-split}
 use Rattle.protocol.proofs.Records.Numbered.{number, Numbered, record-place}
@@ -57,7 +55,7 @@ module _ (size : ℕ) (pos : 0 < size) (now : ℕ) (y : Attempt) (le : firstOf (
 
   -- a write that is not unfinished during the attempt was begun before its end exactly if it was whole before its start
   same-test :
-      (p : Write Placed) → Desc now (p .steps) → (Unfinished size y p → ⊥) →
+      (p : Write Placed) → Desc now (p .steps) → unfinished size y p ≡ false →
       writtenBefore size start p ≡ begunBefore end p
   same-test p d n = go (writtenBefore size start p) refl (begunBefore end p) refl
     where
@@ -76,32 +74,21 @@ module _ (size : ℕ) (pos : 0 < size) (now : ℕ) (y : Attempt) (le : firstOf (
           (lt-ltb 0 (length (p .steps)) (omega arith))
           (lt-ltb (firstOf (p .steps)) end (omega (arith, first-last d))))
       go false e true f =
-          let q = both (ltb 0 (length (p .steps))) (ltb (firstOf (p .steps)) end) f in
-          absurd
-          (n
-          (record {
-            begins = ltb-true 0 (length (p .steps)) (q .0);
-            early = ltb-true (firstOf (p .steps)) end (q .1);
-            late = λ w.
-                let z = together
-                (eq-eqb (length (p .steps)) size (w .0)) (lt-ltb (lastOf (p .steps)) start (w .1)) in
-                let c : _≡_ {A = Bool} true false = sym z ∙ e in
-                let u : _≡_ {A = ℕ} 0 1 = cc in
-                omega arith;
-          }))
+          let met : unfinished size y p ≡ true = rw (e, f) refl in
+          let c : _≡_ {A = Bool} true false = sym met ∙ n in
+          absurd (let u : _≡_ {A = ℕ} 0 1 = cc in omega arith)
 
   agree :
       (x : Placed) (ps : List (Write Placed)) → All (λ p. Desc now (p .steps)) ps →
-      All (λ p. Unfinished size y p → ⊥) ps →
+      All (λ p. unfinished size y p ≡ false) ps →
       latest (writtenBefore size start) x ps ≡ latest (begunBefore end) x ps
   agree x [] d n = refl
   agree x (p ∷ ps) d n =
       ap₂ (λ (t : Bool) (v : Placed). cond t (p .what) v) (same-test p (d .0) (n .0)) (agree x ps (d .1) (n .1))
 
 module _ (F : Form) (r₀ : List ℕ) (pos : 0 < recordSteps F) (mid : F .q + F .n < recordSteps F) (tale : List Event)
-    (now : ℕ) (page : List ℕ) (b : Bool) (ps : List (Write Placed)) (readings : List Reading) (reads : List Read)
-    (buffers : List (List ℕ)) (ys : List Attempt) (G : List Mark)
-    (inv : RecordInv F r₀ tale now page b ps readings reads buffers ys G) where
+    (page : List ℕ) (b : Bool) (readings : List Reading) (buffers : List (List ℕ)) (h : History) (G : List Mark)
+    (inv : RecordInv F r₀ tale (h .now) page b (h .records) readings (h .reads) buffers (h .attempts) G) where
   place-before :
       (u k v : ℕ) → At (fixed (tookAt u k)) v G → (later : List Moment) (t : ℕ) (earlier : List Moment) →
       keep G ≡ later ++ (tookAt u t ∷ earlier) → lastPlace earlier .0 ≡ v
@@ -109,42 +96,43 @@ module _ (F : Form) (r₀ : List ℕ) (pos : 0 < recordSteps F) (mid : F .q + F 
       in-split u v later t earlier (subst Once q (inv .ord .once)) (subst (In u v) q (at-in u v k G at))
 
   reports :
-      (y : Attempt) → Past F r₀ tale now ps G y → y .accepted ≡ true → (later : List Moment) (t : ℕ)
-      (earlier : List Moment) → keep G ≡ later ++ (tookAt (lastOf (y .steps)) t ∷ earlier) →
-      Reports F r₀ tale ps y (lastPlace earlier)
-  reports y p e later t earlier q =
+      (later : List Moment) (t : ℕ) (earlier : List Moment) (y : Attempt) →
+      Past F r₀ tale (h .now) (h .records) G y → y .accepted ≡ true →
+      keep G ≡ later ++ (tookAt (lastOf (y .steps)) t ∷ earlier) → Reports r₀ tale h y (lastPlace earlier)
+  reports later t earlier y p e q =
       let g = p .good e in
       let v = place-before (lastOf (y .steps)) (g .moment) (g .v) (g .marked) later t earlier q in
       record {
         version = record { 0 = g .v };
         used = g .used;
-        holds = g .holds ∙ sym (record-place r₀ ps (lastPlace earlier) (g .v) v);
+        holds = g .holds ∙ sym (record-place r₀ (h .records) (lastPlace earlier) (g .v) v);
         says = g .says;
         number = sym v;
       }
 
-  pub record-order : Order F r₀ tale ps ys
+  pub record-order : Order F r₀ tale h
   record-order = record {
     acts = keep G;
     once = inv .ord .once;
-    writes = all-map ps (λ p f e. f (omega arith)) (inv .ord .writes);
+    writes = all-map (h .records) (λ p f e. f (omega arith)) (inv .ord .writes);
     reads =
-        all-map ys
+        all-map (h .attempts)
         (λ y p e. let g = p .good e in at-has (lastOf (y .steps)) (g .moment) (g .v) G (g .marked))
         (inv .pasts);
     real = inv .ord .real;
     ordered = sorted-kept G (inv .ord .sorted);
-    reports = all-map ys reports (inv .pasts);
+    reports = λ later t earlier. all-map (h .attempts) (reports later t earlier) (inv .pasts);
   }
 
-  pub record-undisturbed : All (Undisturbed (recordSteps F) tale ps) ys
+  pub record-undisturbed : All (Undisturbed (recordSteps F) tale (h .records)) (h .attempts)
   record-undisturbed =
-      all-map ys
+      all-map (h .attempts)
       (λ y p n.
       p .calm
       (ap number
-      (agree (recordSteps F) pos now y (p .times .0) (placed 0 r₀) ps (fit-desc F r₀ now b ps (inv .fit)) n)))
+      (agree (recordSteps F) pos (h .now) y (p .times .0) (placed 0 r₀) (h .records)
+      (fit-desc F r₀ (h .now) b (h .records) (inv .fit)) n)))
       (inv .pasts)
 
-  pub record-ends : All (λ y. Ends F tale y (outcomeAt tale (lastOf (y .steps)))) ys
-  record-ends = all-map ys (λ y p. p .ends) (inv .pasts)
+  pub record-ends : All (λ y. Ends F tale y (outcomeAt tale (lastOf (y .steps)))) (h .attempts)
+  record-ends = all-map (h .attempts) (λ y p. p .ends) (inv .pasts)

@@ -1,7 +1,7 @@
 -- Record writes are numbered by their places: what stands at each position of the page is below the number of writes.
 use mathlib.Core.Path.{_≡_, refl, ap}
 use mathlib.Core.List.{List, [], _∷_}
-use mathlib.Core.Bool.{Bool, true, false}
+use mathlib.Core.Bool.{Bool, true, false, cond}
 use Prim.Native.Nat.{ℕ, suc, _≤_, _<_}
 use native.Mathlib.Omega.{arith}
 use lib.Dec.{eqb, ltb}
@@ -11,7 +11,7 @@ use Rattle.radix.specs.declared.Place.{Place}
 use Rattle.radix.specs.Digits.{product}
 use Rattle.protocol.specs.Form.{Form, versionBases}
 use Rattle.protocol.specs.History.{Write, Placed, placed}
-use Rattle.protocol.specs.Demand.{recordOf}
+use Rattle.protocol.specs.Demand.{latest, recordOf}
 use Rattle.protocol.proofs.Lists.Cases.{by-cond}
 use Rattle.protocol.proofs.Items.Writes.{top, cur}
 
@@ -25,6 +25,9 @@ module _ (r₀ : List ℕ) where
 
   abbrev pub current : Bool → List (Write Placed) → ℕ → ℕ
   current b ps = cur number b (placed 0 r₀) ps
+
+  abbrev placedAs : List (Write Placed) → ℕ → Placed
+  placedAs ps v = latest (λ p. eqb (number (p .what)) v) (placed 0 r₀) ps
 
   abbrev pub recordAs : List (Write Placed) → ℕ → List ℕ
   recordAs ps v = recordOf r₀ ps (record { 0 = v })
@@ -75,15 +78,18 @@ module _ (F : Form) (r₀ : List ℕ) where
       (ps : List (Write Placed)) (v : ℕ) → length r₀ ≡ F .n → Numbered F ps → length (recordAs r₀ ps v) ≡ F .n
   record-size [] v e h = e
   record-size (p ∷ ps) v e h =
-      by-cond (λ (r : List ℕ). length r ≡ F .n) (eqb (number (p .what)) v)
+      by-cond (λ (x : Placed). length (x .content) ≡ F .n) (eqb (number (p .what)) v)
       (λ t. h .1)
       (λ t. record-size ps v e (h .3))
 
   pub record-old :
       (p : Write Placed) (ps : List (Write Placed)) (v : ℕ) → number (p .what) ≡ suc (length ps) → v ≤ length ps →
       recordAs r₀ (p ∷ ps) v ≡ recordAs r₀ ps v
-  record-old p ps v e h = rw (ne-eqb (number (p .what)) v (omega arith))
+  record-old p ps v e h =
+      ap (λ (t : Bool). cond t (p .what) (placedAs r₀ ps v) .content) (ne-eqb (number (p .what)) v (omega arith))
 
   pub record-new :
       (p : Write Placed) (ps : List (Write Placed)) → recordAs r₀ (p ∷ ps) (number (p .what)) ≡ p .what .content
-  record-new p ps = rw (eq-eqb (number (p .what)) (number (p .what)) refl)
+  record-new p ps =
+      let n : ℕ = number (p .what) in
+      ap (λ (t : Bool). cond t (p .what) (placedAs r₀ ps n) .content) (eq-eqb n n refl)

@@ -8,14 +8,25 @@ use native.Mathlib.Nat.{le-refl}
 use native.Mathlib.Omega.{arith}
 use lib.ListN.{length}
 use Rattle.radix.specs.declared.Place.{Place}
-use Rattle.protocol.specs.Lists.{All, Any}
+use Rattle.protocol.specs.Lists.{All}
 use Rattle.protocol.specs.Form.{Form}
 use Rattle.protocol.specs.History.{Write, Placed, Attempt, begun}
-use Rattle.protocol.specs.Demand.{lastOf, Act, wrote, took, Moment, Once, Has, lastPlace, Within, Real}
+use Rattle.protocol.specs.Demand.{lastOf, Act, wrote, took, Moment, Has, Within, Real}
 use Rattle.protocol.proofs.Lists.Cases.{all-map}
 use Rattle.protocol.proofs.Items.Times.{Desc, desc-now, first-le, last-le, first-more}
 use Rattle.protocol.proofs.Items.Writes.{on}
-use Rattle.protocol.proofs.Orders.Marks.{Mark, fixed, pending, timeOf, keep, wroteAt, mark, mark-last}
+use Rattle.protocol.proofs.Orders.Marks.{
+  lastPlace,
+  Once,
+  Mark,
+  fixed,
+  pending,
+  timeOf,
+  keep,
+  wroteAt,
+  mark,
+  mark-last,
+}
 use Rattle.protocol.proofs.Orders.Facts.{mark-all, mark-kept, mark-any, Older, mark-once, Sorted, mark-sorted}
 use Rattle.protocol.proofs.Records.Numbered.{number}
 
@@ -82,16 +93,9 @@ upto-more : (k l : ℕ) (x : Act) → k ≤ l → UpTo k x → UpTo l x
 upto-more k l (wrote i) h g = omega arith
 upto-more k l (took u) h g = tt
 
-above : (k : ℕ) (i : Place) (x : Act) → k < i .0 → UpTo k x → wrote i ≡ x → ⊥
+above : (k : ℕ) (i : Place) (x : Act) → k < i .0 → UpTo k x → wrote i ≢ x
 above k i (wrote j) h g e = let z : i ≡ j = cc in omega (arith, ap (λ (i : Place). i .0) z)
 above k i (took u) h g e = let z : _≡_ {A = ℕ} 0 1 = cc in omega arith
-
-upto-not :
-    (k : ℕ) (i : Place) (l : List Moment) → k < i .0 → All (λ a. UpTo k (a .act)) l →
-    Any (λ b. wrote i ≡ b .act) l → ⊥
-upto-not k i [] h g x = x
-upto-not k i (a ∷ l) h g (inl e) = above k i (a .act) h (g .0) e
-upto-not k i (a ∷ l) h g (inr x) = upto-not k i l h (g .1) x
 
 module _ (F : Form) where
   -- k is the last place; a write is in the order once its last byte is written
@@ -190,7 +194,7 @@ module _ (F : Form) where
         Ord (suc now) (number (p .what)) (on p (suc now) ∷ ps) ys (fixed (wroteAt (p .what .place) (suc now)) ∷ G)
     ord-wrote n h = record {
       last = refl;
-      once = (upto-not k (p .what .place) (keep G) h (o .upto), o .once);
+      once = (all-map (keep G) (λ a u. above k (p .what .place) (a .act) h u) (o .upto), o .once);
       upto =
           (le-refl _, all-map (keep G) (λ a u. upto-more k (number (p .what)) (a .act) (omega arith) u) (o .upto));
       timed = ((tt, le-refl _), all-map G (timed-later now) (o .timed));

@@ -67,17 +67,15 @@ demand3 F L c r₀ S xs e =
     let b : Bool = recordBusy (h .pending) in
     record {
       order =
-          record-order F r₀ some mid (story ys) (h .now) (σ .page) b (h .records) (σ .readings) (h .reads)
-          (σ .buffers) (h .attempts) (inv .marks) (inv .records);
+          record-order F r₀ some mid (story ys) (σ .page) b (σ .readings) (σ .buffers) h (inv .marks) (inv .records);
       spans = all-map (h .countReads) (λ x d. d .span) (inv .counts .dones);
       undisturbed =
-          record-undisturbed F r₀ some mid (story ys) (h .now) (σ .page) b (h .records) (σ .readings) (h .reads)
-          (σ .buffers) (h .attempts) (inv .marks) (inv .records);
+          record-undisturbed F r₀ some mid (story ys) (σ .page) b (σ .readings) (σ .buffers) h (inv .marks)
+          (inv .records);
       time = inv .time;
       explained = inv .explained;
       ends =
-          record-ends F r₀ some mid (story ys) (h .now) (σ .page) b (h .records) (σ .readings) (h .reads)
-          (σ .buffers) (h .attempts) (inv .marks) (inv .records);
+          record-ends F r₀ some mid (story ys) (σ .page) b (σ .readings) (σ .buffers) h (inv .marks) (inv .records);
       placing = numbered-placing F (h .records) (inv .records .numbered);
       whole = fit-whole F r₀ (h .now) (h .pending) (h .records) (inv .records .fit);
       readers = λ r. rw loaded (inv .readers r);

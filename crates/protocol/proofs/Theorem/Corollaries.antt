@@ -8,13 +8,13 @@ use native.Mathlib.Omega.{arith}
 use lib.ListN.{length, getD}
 use Rattle.radix.specs.declared.Count.{Count}
 use Rattle.protocol.specs.Form.{Form, recordSteps}
-use Rattle.protocol.specs.State.{Reading, idle, ofCount, ofRecord, readingOf}
+use Rattle.protocol.specs.State.{Reading, readingOf}
 use Rattle.protocol.specs.Outcome.{endingNumber}
 use Rattle.protocol.specs.Memory.{Memory}
 use Rattle.protocol.specs.Load.{load}
 use Rattle.protocol.specs.Run.{openPage, Run, run, runs, left}
 use Rattle.protocol.specs.History.{Read, fresh, history}
-use Rattle.protocol.specs.Demand.{handed, story, Agree, Mild}
+use Rattle.protocol.specs.Demand.{handed, story, Agree, bothRecord, Mild}
 use Rattle.protocol.specs.declared.Ending.the-variants.{Finished}
 use Rattle.protocol.proofs.Theorem.Runs.{run-on}
 use Rattle.protocol.proofs.Theorem.Opening.{opens, proper}
@@ -23,11 +23,8 @@ use Rattle.protocol.proofs.Theorem.Claim.{leaves, demand3}
 still-reading :
     (F : Form) (w : ℕ) → w ≡ recordSteps F → (st : Reading) (a : ℕ) (es ts : List ℕ) →
     Agree F st (Read.ofRecord a es ts) → length ts + length es < a * w
-still-reading F w e idle a es ts h = absurd h
-still-reading F w e (ofCount ds) a es ts h = absurd h
-still-reading F w e (ofRecord b f s ds) a es ts h =
-    rw (e, ← h .0)
-    (omega (arith, h .1, h .2, h .3, suc-mul f (recordSteps F), mul-le-mul-right (recordSteps F) (h .4)))
+still-reading F w e st a es ts (bothRecord {f = f} before same low more) =
+    rw e (omega (arith, suc-mul f (recordSteps F), mul-le-mul-right (recordSteps F) more))
 
 -- a record read that goes on has taken fewer than allowed × (2q + n) of its own steps
 pub in-time :
@@ -58,4 +55,4 @@ next-run-starts F L c record₀ S xs e whole z =
     (run-on F c record₀ S (proper F record₀ (o .good) (o .size)) (o .good) z (held .state) (story ys)
     (history F S (fresh F) (handed xs ys)) (held .sized) (held .fine) (held .inv) .1)
     in
-    (mild .format, λ q. mild .lengths q whole, mild .state)
+    (mild .0 .0, λ q. mild .1 q whole, mild .0 .1 .0)

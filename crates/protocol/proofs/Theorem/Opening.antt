@@ -16,6 +16,7 @@ use Rattle.protocol.specs.State.{idle, opened}
 use Rattle.protocol.specs.Memory.{Memory, stored, goodLengths}
 use Rattle.protocol.specs.Run.{openPage, Ran}
 use Rattle.protocol.specs.History.{Read, fresh}
+use Rattle.protocol.specs.Demand.{bothIdle}
 use Rattle.protocol.specs.declared.Ending.the-variants.{Finished}
 use Rattle.protocol.proofs.Lists.Cases.{by-cond, both}
 use Rattle.protocol.proofs.Lists.Places.{getD-all}
@@ -96,7 +97,7 @@ module _ (F : Form) (c : Count) (r₀ S : List ℕ) (good : goodForm F ≡ true)
         buffersSize = sized .buffers;
         readsSize = length-replicate (F .readers) Read.none;
         writer = tt;
-        readers = λ r. rw (getD-all (F .readers) r idle, getD-all (F .readers) r Read.none) tt;
+        readers = λ r. rw (getD-all (F .readers) r idle, getD-all (F .readers) r Read.none) bothIdle;
         explained = λ t a b. absurd (omega arith);
         counts = record {
           fit = tt;

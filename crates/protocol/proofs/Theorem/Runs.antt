@@ -34,8 +34,7 @@ abbrev pub accepts : List Event → List Bool
 accepts es = map (λ (e : Event). isAccepted (e .outcome)) es
 
 finished : (F : Form) (S : List ℕ) → Mild F S Finished
-finished F S =
-    record { format = omega arith; lengths = λ q. absurd (omega arith); state = omega arith; copies = omega arith }
+finished F S = (omega arith, λ q. absurd (omega arith))
 
 module _ (F : Form) (x : Count) (r₀ S : List ℕ) where
   -- memory that holds an allowed state with the invariant
@@ -144,12 +143,7 @@ module _ (F : Form) (x : Count) (r₀ S : List ℕ) (ok : Proper F r₀) where
         (by-cond (Leaves tale h z) (not (eqb (length S % F .n) 0))
         (λ e. (
           record { state = σ; memory = refl; sized = sized; fine = fine; inv = rw append-nil i },
-          record {
-            format = omega arith;
-            lengths = λ q. eqb-false (length S % F .n) 0 (not-true (eqb (length S % F .n) 0) e);
-            state = omega arith;
-            copies = omega arith;
-          },
+          (omega arith, λ q. eqb-false (length S % F .n) 0 (not-true (eqb (length S % F .n) 0) e)),
         ))
         (λ e.
         rw (stored-valid F S σ good sized fine, load-stored F S σ good sized fine)
@@ -165,7 +159,7 @@ module _ (F : Form) (x : Count) (r₀ S : List ℕ) (ok : Proper F r₀) where
         Held F x r₀ S (tale ++ story (runs F S L zs)) (left L (runs F S L zs))
         (history F S h (handed zs (runs F S L zs)))
         × All (λ y. Mild F S (y .ending)) (runs F S L zs)
-    unfolding runs story history handed
+    unfolding runs history handed
     runs-on [] L tale h held = (rw append-nil held, tt)
     runs-on (z ∷ zs) L tale h held =
         let y : Ran = run F S L z in
