@@ -1,0 +1,256 @@
+#!/usr/bin/env python3
+"""Check the reference itself: against the run, the edges and the trap of document 01; against two small oracles that know no
+page but only which store came last before which load, over all interleavings of small forms; against the history that the
+commands alone tell, over generated inputs; and that the generator reaches every refusal and every sort of ending. Prints
+what was checked; the exit status is 1 if anything fails."""
+
+import sys
+from collections import Counter
+from itertools import combinations_with_replacement
+from pathlib import Path
+
+import inputs
+import runlist
+from inputs import DOCUMENT_RUN, WRITER, header, read_count, read_record, step, write_count, write_record
+from runlist import BODY_LENGTH, Refusal, digits_of, opened, printed, product, run, shown_count
+
+EXAMPLES = Path(__file__).resolve().parent.parent / "examples"
+failures = 0
+
+
+def check(good, what):
+    global failures
+    if not good:
+        failures += 1
+        if failures <= 20:
+            print("FAILED: %s" % what)
+
+
+def same(found, expected, what):
+    check(found == expected, "%s: %r, not %r" % (what, found, expected))
+
+
+# Document 01.
+
+
+def document():
+    same(printed(DOCUMENT_RUN), "R 0 2 1 6262\nC 0 7\nEND 20 0\n", "the printed run")
+    same(printed(b""), "END 0 2\n", "empty input")
+    trap = header([10] * 3, readers=2, count=99) + (
+        read_count(0) + step(0) * 3 + write_count(150) + WRITER * 6 + read_count(1) + step(1) * 6 + step(0) * 3)
+    same(printed(trap), "C 1 150\nC 0 100\nEND 21 0\n", "the trap of two reads that overlap")
+    edges = (([10] * 3, [0, 0, 0], [1, 0, 0], 100), ([10] * 3, [0, 9, 9], [1, 9, 9], 100),
+             ([24, 60], [11, 57], [12, 4], 720), ([24, 60], [11, 57], [11, 59], 719), ([24, 60], [11, 57], [11, 57], 717),
+             ([24, 60], [12, 4], [11, 57], None), ([10], [5], [7], 7))
+    for bases, a, b, expected in edges:
+        try:
+            found = shown_count(a, b, bases)
+        except Refusal as refusal:
+            found = None if refusal.number == 10 else refusal.number
+        same(found, expected, "edge a = %s, b = %s" % (a, b))
+    same(digits_of(9, [10]), [9], "digit of 9")
+    same(printed(header(count=10)), "END 0 4\n", "count 10 with base 10")
+    same(digits_of(2**64 - 1, [256] * 8), [255] * 8, "digits of the last count")
+    top = header(records=[b"x"]) + (write_record(0) + WRITER * 3) * 9
+    same(printed(top), "END 36 0\n", "version 9 with base 10")
+    same(printed(top + write_record(0)), "END 36 9\n", "version 10 with base 10")
+    print("document 01: the printed run, the empty input, the trap, %d edges of the comparison, 5 of the numbers" % len(edges))
+
+
+# Oracles. Write j = 1, 2, ... takes the writer's steps from (j - 1) * w + 1 to j * w. What a load finds after s steps of the
+# writer was stored by the last write that has taken its step for that place: write (s - k) // w + 1 if the place is the
+# k-th that a write stores, and the opening if that is 0.
+
+
+def writes_stored(s, k, w):
+    return (s - k) // w + 1
+
+
+def count_oracle(bases, counts, times):
+    """What a read shows whose loads come after times[0], times[1], ... steps of the writer, by whole numbers."""
+    m = len(bases)
+    a = b = 0
+    for i in range(m):
+        digit = [digits_of(count, bases)[i] for count in counts]
+        weight = product(bases[i + 1:])
+        a += weight * digit[writes_stored(times[i], 2 * m - i, 2 * m)]
+        b += weight * digit[writes_stored(times[2 * m - 1 - i], i + 1, 2 * m)]
+    for i in range(m):
+        weight = product(bases[i + 1:])
+        if a // weight != b // weight:
+            return b // weight * weight
+    return b
+
+
+def schedule(writes, w, times):
+    """The writes in order, with a step of reader 0 after each of the times."""
+    out, taken = b"", 0
+    for s in range(len(writes) * w + 1):
+        if s:
+            out += (writes[(s - 1) // w] if s % w == 1 else b"") + WRITER
+        while taken < len(times) and times[taken] == s:
+            out += step(0)
+            taken += 1
+    return out
+
+
+def count_reads(bases, writes):
+    """All interleavings of a count read with so many count writes, for all counts."""
+    w, runs, between_copies = 2 * len(bases), 0, 0
+    for counts in combinations_with_replacement(range(product(bases)), writes + 1):
+        commands = [write_count(count) for count in counts[1:]]
+        for times in combinations_with_replacement(range(writes * w + 1), w):
+            out = printed(header(bases, count=counts[0]) + read_count(0) + schedule(commands, w, times))
+            shown = int(out.split()[2])
+            last_whole, last_begun = times[0] // w, (times[-1] + w - 1) // w
+            what = "bases %s, counts %s, loads after %s" % (bases, counts, times)
+            same(out, "C 0 %d\nEND %d 0\n" % (count_oracle(bases, counts, times), 1 + writes * (w + 1) + w), what)
+            check(counts[last_whole] <= shown <= counts[last_begun], what + " leaves the span")
+            runs += 1
+            between_copies += shown not in counts
+    print("count reads, bases %s, %d writes: %d runs against oracle and span; %d show a count that no write had" % (
+        bases, writes, runs, between_copies))
+
+
+def record_reads(q, version_base, n, writes, first, allowed):
+    """All interleavings of a record read with the writes after the first ones; no two records share a byte."""
+    w = 2 * q + n
+    records = [bytes(16 * j + i for i in range(n)) for j in range(writes + 1)]
+    head = header([2], q, version_base, n, 1, 0, records[0], records[1:])
+    commands = [write_record(j) for j in range(writes)]
+    ends = Counter()
+    for times in combinations_with_replacement(range(first * w, writes * w + 1), allowed * w):
+        line = None
+        for used in range(1, allowed + 1):
+            attempt = times[(used - 1) * w:used * w]
+            v2 = [digits_of(writes_stored(attempt[i], w - i, w), [version_base] * q)[i] for i in range(q)]
+            v1 = [digits_of(writes_stored(attempt[w - 1 - i], i + 1, w), [version_base] * q)[i] for i in range(q)]
+            held = bytes(records[writes_stored(attempt[q + i], q + i + 1, w)][i] for i in range(n))
+            last_whole, last_begun = attempt[0] // w, (attempt[-1] + w - 1) // w
+            check(v1 == v2 or last_whole < last_begun, "%s: an attempt that no write met is not accepted" % (times,))
+            if v1 == v2:
+                version = runlist.value(v1, [version_base] * q)
+                line = "R 0 %d %d %s" % (used, version, held.hex())
+                check(held == records[version], "%s: accepted and torn" % (times,))
+                check(last_whole <= version <= last_begun, "%s: a record out of its time" % (times,))
+                break
+        ends[line[0] + str(used) if line else "G"] += 1
+        data = head + read_record(0, allowed) + schedule(commands, w, times[:used * w])
+        page, at = opened(data)
+        what = "q %d, n %d, loads after %s" % (q, n, times)
+        same(run(page, data[at:]), ([line or "G 0 %d" % allowed], 1 + writes * (w + 1) + used * w, 0), what)
+        same(bytes(page.buffers[0]), held if line else bytes(n), what + ": the buffer")
+    print("record reads, q %d, base %d, n %d, %d writes, %d allowed: %d runs against the oracle (accepted at once %d, "
+          "by the second attempt %d, given up %d)" % (q, version_base, n, writes - first, allowed, sum(ends.values()), ends["R1"], ends["R2"], ends["G"]))
+
+
+# The history of a run, told by its commands alone.
+
+
+class Written:
+    """What a write put on the page, and the numbers of the commands that were its first and last step, once taken."""
+
+    def __init__(self, what, first=None, last=None):
+        self.what, self.first, self.last = what, first, last
+
+
+def history(data, ends):
+    """Check each line of a run against the writes and steps before it, and count in what ways reads end."""
+    try:
+        page, at = opened(data)
+    except Refusal:
+        return
+    form, done = page.form, int(printed(data).split()[-2])
+    whole = {1: 2 * len(form.bases), 2: 2 * form.q + form.n}
+    writes = {1: [Written(page.count(), 0, 0)], 2: [Written(bytes(page.record), 0, 0)]}  # the opening is number 0
+    reads = {}
+    for index in range(1, done + 1):
+        kind, body = data[at], data[at + 1:at + 1 + BODY_LENGTH[data[at]]]
+        at += 1 + len(body)
+        line = page.carry_out(kind, body)
+        if kind in (1, 2):
+            place = runlist.number(body)
+            writes[kind].append(Written(place if kind == 1 else page.records[place]))
+            write, left = writes[kind][-1], whole[kind]
+        elif kind == 3:
+            if write.first is None:
+                write.first = index
+            left -= 1
+            if left == 0:
+                write.last = index
+        elif kind in (4, 5):
+            reads[body[0]] = (kind - 3, body[-1], [])
+        elif kind == 7:
+            del reads[body[0]]
+            ends["cancelled"] += 1
+        else:
+            sort, allowed, steps = reads[body[0]]
+            steps.append(index)
+            expected = None
+            if len(steps) % whole[sort] == 0:
+                first = steps[-whole[sort]]
+                used = len(steps) // whole[sort]
+                last_whole = max(i for i, w in enumerate(writes[sort]) if w.last is not None and w.last < first)
+                last_begun = max(i for i, w in enumerate(writes[sort]) if w.first is not None and w.first < index)
+                expected = "G %d %d" % (body[0], used) if used == allowed else None
+                if sort == 1:
+                    count = int(line.split()[2])
+                    check(writes[1][last_whole].what <= count <= writes[1][last_begun].what, "command %d: span" % index)
+                    expected = "C %d %d" % (body[0], count)
+                    ends["shown in a race" if last_whole < last_begun else "shown at rest"] += 1
+                elif line is not None and line[0] == "R":
+                    version = int(line.split()[3])
+                    check(last_whole <= version <= last_begun, "command %d: record out of its time" % index)
+                    expected = "R %d %d %d %s" % (body[0], used, version, writes[2][version].what.hex())
+                    ends["accepted at once" if used == 1 else "accepted after a retry"] += 1
+                else:
+                    check(last_whole < last_begun, "command %d: an attempt that no write met is not accepted" % index)
+                    ends["torn"] += 1
+                    if expected:
+                        check(not any(page.buffers[body[0]]), "command %d: torn bytes stay" % index)
+                        ends["given up"] += 1
+                if expected:
+                    del reads[body[0]]
+            same(line, expected, "command %d" % index)
+
+
+def generated(seeds):
+    ends, refusals = Counter(), Counter()
+    for seed in range(seeds):
+        data = inputs.make(seed)
+        same(inputs.make(seed), data, "seed %d made again" % seed)
+        history(data, ends)
+        refusals[int(printed(data).split()[-1])] += 1
+    for refusal in (0, 1, 2, 4, 5, 6, 7, 8, 9, 11):
+        check(refusals[refusal] >= seeds // 100, "few inputs end with refusal %d" % refusal)
+    for end in ("shown in a race", "accepted after a retry", "given up", "cancelled"):
+        check(ends[end] >= seeds // 20, "few reads are %s" % end)
+    check(not refusals[3] and not refusals[10] and not refusals[12], "3, 10 and 12 cannot be reached")
+    print("%d generated inputs against their histories: %s" % (seeds, ", ".join("%s %d" % e for e in sorted(ends.items()))))
+    print("they end with refusal " + ", ".join("%d: %d" % end for end in sorted(refusals.items())))
+
+
+def examples():
+    """The commented schedules print what stands beside them."""
+    names = sorted(EXAMPLES.glob("*.hex"))
+    for name in names:
+        data = bytes.fromhex(" ".join(line.split("#")[0].strip() for line in name.read_text().splitlines()))
+        same(printed(data), name.with_suffix(".out").read_text(), name.name)
+    print("examples: %s" % ", ".join(name.name for name in names))
+
+
+def main():
+    document()
+    examples()
+    count_reads([2, 3], 2)
+    count_reads([2, 2, 2], 1)
+    record_reads(1, 10, 2, 2, 0, 2)
+    record_reads(2, 2, 1, 3, 1, 1)  # the write that carries the version from 01 to 10, and the one after it
+    record_reads(2, 2, 1, 2, 1, 2)
+    generated(1500)
+    print("%d failed" % failures if failures else "all good")
+    return 1 if failures else 0
+
+
+if __name__ == "__main__":
+    sys.exit(main())
