@@ -20,7 +20,7 @@ use radix::Version;
 use radix::VersionRead;
 
 // Is every number of the format in its range?
-pub(crate) fn good_format(format: Format, bases: &[u16]) -> bool
+pub fn good_format(format: Format, bases: &[u16]) -> bool
     ensures { λ r. ⌜ r ≡ goodForm (formOf (now (bases .entry)) format) ⌝ }
 {
     if bases.len() < 1 {

@@ -9,6 +9,7 @@ mod reader;
 mod turn;
 mod writing;
 
+pub use check::good_format;
 pub use opening::open;
 use protocol::Ending;
 use protocol::Outcome;

@@ -1,0 +1,4 @@
+-- The whole text.
+pub mod Turns
+pub mod Full
+pub mod Whole
