@@ -5,5 +5,4 @@ pub mod Tests
 pub mod Runs
 pub mod Entries
 pub mod Calls
-pub mod Lengths
-pub mod Bounds
+pub mod Forward

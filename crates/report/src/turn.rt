@@ -233,7 +233,7 @@ pub fn next(
         (store (now (kinds .entry)) (now (allowed .entry)) (now (finished .entry)) (now (steps .entry))
         (now (digits .entry))) (now (buffers .entry))) (parseOf more (now (input .entry)))) ⌝ }
     ensures { λ r. ⌜ (r .last ≡ false → (p .at < r .progress .at) × (r .progress .at ≤ length (now (input .entry)))) ⌝ }
-    ensures { λ r. ⌜ r .written ≤ 640 ⌝ }
+    ensures { λ r. ⌜ r .written ≤ length (now (line .exit)) ⌝ }
 {
     let x = header::parse(input, more);
     match x {

@@ -1,79 +1,92 @@
+-- Each turn that is not the last goes forward in the input.
+use borrow.Author.Needs.{needs}
+use borrow.Author.Tests.{not-true}
+use mathlib.Core.Path.{_≡_, refl, sym, _∙_}
+use mathlib.Core.Bool.{Bool, true, false, cond}
+use Prim.Native.Nat.{ℕ, suc, _-_, _≤_, _<_}
+use native.Mathlib.Omega.{arith}
+use lib.ListN.{length}
+use lib.Seq.{length-take-le}
 use Rattle.runlist.proofs.print.Statement.{statement}
 use Rattle.runlist.proofs.print.Tie as tie
-use Rattle.runlist.proofs.print.Reads as reads
-use Rattle.runlist.proofs.print.Lts as lts
-use Rattle.io.proofs.write_all.Reads as write-all-reads
-use Rattle.report.proofs.next.Reads as next-reads
-use Rattle.report.proofs.start.Reads as start-reads
-use Rattle.runlist.proofs.no_writer.Reads as no-writer-reads
 
 abbrev Inv-loop : tie.InvT-loop
 Inv-loop input more page₀ buffers₀ kinds₀ allowed₀ finished₀ steps₀ digits₀ line₀ p₀ w₀ last₀ page buffers kinds allowed finished steps digits line p w last =
-    ?
+    (length page ≡ length page₀) × (length buffers ≡ length buffers₀)
 
 abbrev μ-loop : tie.MeasureT-loop
 μ-loop input more page₀ buffers₀ kinds₀ allowed₀ finished₀ steps₀ digits₀ line₀ p₀ w₀ last₀ page buffers kinds allowed finished steps digits line p w last =
-    ?
+    cond last 0 (suc (length input - p .at))
 
--- src/main.rt:36:9
 no-writer-requires : tie.Need-no-writer-requires Inv-loop μ-loop
-no-writer-requires c κs = ?
+no-writer-requires c κs = search needs
 
--- src/main.rt:32:9
 start-requires : tie.Need-start-requires Inv-loop μ-loop
-start-requires c κs = ?
+start-requires c κs = search needs
 
--- src/main.rt:47:5
 loop-holds : tie.Need-loop-holds Inv-loop μ-loop
-loop-holds c = ?
+loop-holds c = search needs
 
--- src/main.rt:48:13
 next-requires : tie.Need-next-requires Inv-loop μ-loop
-next-requires c κs = ?
+next-requires c κs = search needs
 
--- src/main.rt:63:42
 array-share-prefix-line : tie.Need-array-share-prefix-line Inv-loop μ-loop
-array-share-prefix-line c = ?
+array-share-prefix-line c = search needs
 
--- src/main.rt:63:42
 slice-aggregate-write-all : tie.Need-slice-aggregate-write-all Inv-loop μ-loop
-slice-aggregate-write-all c = ?
+slice-aggregate-write-all c = sym (length-take-le _ _ (array-share-prefix-line (c .before)))
 
--- src/main.rt:63:13
 write-all-requires : tie.Need-write-all-requires Inv-loop μ-loop
-write-all-requires c κs = ?
+write-all-requires c κs = search needs
 
--- src/main.rt:64:13
+-- the loop, from where a line is told
+abbrev in-loop : tie.After-next Inv-loop μ-loop → tie.In-loop Inv-loop μ-loop
+in-loop c = c .before .before .before .before .before .before .before .before .before
+
+abbrev start-of : tie.At-loop Inv-loop μ-loop → tie.Start Inv-loop μ-loop
+start-of c = c .before .before .before .before .before .before .before .before .before .before .before .before .before .before .before .before .before .before .before
+
 same-length : tie.Need-same-length Inv-loop μ-loop
-same-length c = ?
+same-length c =
+    let p = c .before .before .before .before .before .before in
+    let l = in-loop (p .before) .before in
+    p .page2 .given ∙ l .loop .inv .0 ∙ l .before .before .before .before .before .before .page .given
 
--- src/main.rt:64:13
 same-length-2 : tie.Need-same-length-2 Inv-loop μ-loop
-same-length-2 c = ?
+same-length-2 c =
+    let b = c .before .before .before .before in
+    let l = in-loop (b .before .before .before) .before in
+    b .buffers2 .given ∙ l .loop .inv .1 ∙ l .before .before .before .before .buffers .given
 
--- src/main.rt:64:13
 returns : tie.Need-returns Inv-loop μ-loop
-returns c = ?
+returns c = search needs
 
--- src/main.rt:47:5
+falls : (n a b : ℕ) (old new : Bool) → old ≡ false → (new ≡ false → (a < b) × (b ≤ n))
+    → cond new 0 (suc (n - b)) < cond old 0 (suc (n - a))
+falls n a b old true e f = rw e (omega arith)
+falls n a b old false e f =
+    let (low, high) = f refl in
+    rw e (omega arith)
+
 loop-less : tie.Need-loop-less Inv-loop μ-loop
-loop-less c = ?
+loop-less c =
+    let n = c .before .before .before .before .before .before .before .before .before in
+    let i = in-loop n in
+    let l = i .before .loop in
+    falls (length (start-of (i .before) .args .input .now)) (l .p .at) (n .next .result .progress .at) (l .last)
+    (n .next .result .last) (not-true _ (i .loop-test .taken)) (n .next .ensures .1 .0)
 
--- src/main.rt:47:5
 loop-again : tie.Need-loop-again Inv-loop μ-loop
-loop-again c = ?
+loop-again c = search needs
 
--- src/main.rt:25:1
 same-length-3 : tie.Need-same-length-3 Inv-loop μ-loop
-same-length-3 c = ?
+same-length-3 c = search needs
 
--- src/main.rt:25:1
 same-length-4 : tie.Need-same-length-4 Inv-loop μ-loop
-same-length-4 c = ?
+same-length-4 c = search needs
 
--- src/main.rt:25:1
 returns-2 : tie.Need-returns-2 Inv-loop μ-loop
-returns-2 c = ?
+returns-2 c = search needs
 
 pub print-spec : {M : Type 1} → statement M
 print-spec =

@@ -15,7 +15,7 @@ use Rattle.report.specs.Turn.{turnOf}
 use Rattle.report.specs.Calls.{toldFrom}
 use Rattle.report.proofs.Laws.Taken.{Taken, taken, refused-is}
 use Rattle.report.proofs.Turns.Tests.{header-refused, beyond, too-many, at-end, inside, tells-end}
-use Rattle.report.proofs.Turns.Bounds.{told-bounds}
+use Rattle.report.proofs.Turns.Forward.{told-bounds}
 use Rattle.report.proofs.turn.next.Statement.{statement}
 use Rattle.report.proofs.turn.next.Tie as tie
 
