@@ -9,6 +9,7 @@ ghost use Rattle.protocol.specs.Form.{formOf, goodForm};
 ghost use Rattle.report.specs.Header.{places, formEnd, formIn, parse as parseOf};
 ghost use Rattle.report.specs.Header.{number as numberOf};
 ghost use Rattle.report.specs.Found.{found, foundRest};
+use crate::bytes;
 use protocol::Format;
 use protocol::Refusal;
 use radix::Count;
@@ -29,53 +30,6 @@ pub(crate) enum Parsed {
     Is(Header),
 }
 
-fn wide(x: u8) -> u64
-    ensures { λ r. ⌜ r ≡ x ⌝ }
-{
-    x as u64
-}
-
-fn index(x: u8) -> usize
-    ensures { λ r. ⌜ r ≡ x ⌝ }
-{
-    x as usize
-}
-
-fn base(x: u8) -> u16
-    ensures { λ r. ⌜ r ≡ x ⌝ }
-{
-    x as u16
-}
-
-// The number that k bytes at a place say, high byte first.
-pub(crate) fn number(s: &[u8], at: usize, k: usize) -> u64
-    requires { ⌜ (k ≤ 8) × (at + k ≤ length (now s)) ⌝ }
-    ensures { λ r. ⌜ r ≡ numberOf k at (now (s .entry)) ⌝ }
-{
-    let mut x: u64 = 0;
-    let mut i: usize = 0;
-    while i < k {
-        x = x * 256 + wide(s[at + i]);
-        i = i + 1;
-    }
-    x
-}
-
-// The same of two bytes, as a base and as a length.
-fn base_at(s: &[u8], at: usize) -> u16
-    requires { ⌜ at + 2 ≤ length (now s) ⌝ }
-    ensures { λ r. ⌜ r ≡ numberOf 2 at (now (s .entry)) ⌝ }
-{
-    base(s[at]) * 256 + base(s[at + 1])
-}
-
-fn length_at(s: &[u8], at: usize) -> usize
-    requires { ⌜ at + 2 ≤ length (now s) ⌝ }
-    ensures { λ r. ⌜ r ≡ numberOf 2 at (now (s .entry)) ⌝ }
-{
-    index(s[at]) * 256 + index(s[at + 1])
-}
-
 // The bases are the first m of eight.
 pub(crate) fn bases(s: &[u8], m: usize) -> [u16; 8]
     requires { ⌜ (m ≤ 8) × (1 + 2 * m ≤ length (now s)) ⌝ }
@@ -85,7 +39,7 @@ pub(crate) fn bases(s: &[u8], m: usize) -> [u16; 8]
     let mut all = [0u16; 8];
     let mut i: usize = 0;
     while i < m {
-        all[i] = base_at(s, 1 + 2 * i);
+        all[i] = bytes::base_at(s, 1 + 2 * i);
         i = i + 1;
     }
     all
@@ -97,10 +51,10 @@ fn format(s: &[u8], m: usize) -> Format
     ensures { λ r. ⌜ formOf (formIn (now (s .entry)) .bases) r ≡ formIn (now (s .entry)) ⌝ }
 {
     Format {
-        q: index(s[1 + 2 * m]),
-        base: base_at(s, 2 + 2 * m),
-        n: length_at(s, 4 + 2 * m),
-        readers: index(s[6 + 2 * m]),
+        q: bytes::index(s[1 + 2 * m]),
+        base: bytes::base_at(s, 2 + 2 * m),
+        n: bytes::length_at(s, 4 + 2 * m),
+        readers: bytes::index(s[6 + 2 * m]),
     }
 }
 
@@ -119,11 +73,11 @@ fn parse_rest(s: &[u8], m: usize, f: Format, bases: &[u16]) -> Parsed
     if s.len() < records {
         return Parsed::Refused(Refusal::WrongLength);
     }
-    let commands = records + length_at(s, size) * f.n;
+    let commands = records + bytes::length_at(s, size) * f.n;
     if s.len() < commands {
         return Parsed::Refused(Refusal::WrongLength);
     }
-    let count = Count(number(s, end, 8));
+    let count = Count(bytes::number(s, end, 8));
     let fits = radix::counts::digit(bases, 0, count);
     let Digit::Is(_) = fits else {
         return Parsed::Refused(Refusal::CountTooLarge);
@@ -145,7 +99,7 @@ pub(crate) fn parse(s: &[u8], more: bool) -> Parsed
     if more || s.len() == 0 {
         return Parsed::Refused(Refusal::WrongLength);
     }
-    let m = index(s[0]);
+    let m = bytes::index(s[0]);
     if m < 1 || 8 < m {
         return Parsed::Refused(Refusal::BadFormat);
     }

@@ -1,13 +1,15 @@
 // The printed run as a library on slices: the header out of the input, and one line after another.
+mod bytes;
 mod header;
 mod line;
+mod opening;
 mod text;
 mod turn;
 
+pub use opening::room;
+pub use opening::start;
 use protocol::Writer;
 pub use turn::next;
-pub use turn::room;
-pub use turn::start;
 
 // How long the page and all buffers are for an input; 0 if its header is refused.
 pub struct Space {

@@ -4,21 +4,9 @@ ghost use Prim.Native.Nat.{_+_, _*_, _≤_};
 ghost use lib.ListN.{length, getD};
 ghost use Rattle.page.specs.Entry.{overlay, added};
 ghost use Rattle.report.specs.Text.{shownLine, acceptedLine, gaveUpLine, entryLine, endLine, EntryFits};
-use crate::header;
+use crate::bytes;
 use crate::text;
 use protocol::Ending;
-
-fn wide(x: u8) -> u64
-    ensures { λ r. ⌜ r ≡ x ⌝ }
-{
-    x as u64
-}
-
-fn index(x: u8) -> usize
-    ensures { λ r. ⌜ r ≡ x ⌝ }
-{
-    x as usize
-}
 
 fn put_shown(out: &mut [u8], entry: &[u8]) -> usize
     requires { ⌜ (640 ≤ length (now out)) × (length (now entry) ≡ 10) ⌝ }
@@ -27,8 +15,8 @@ fn put_shown(out: &mut [u8], entry: &[u8]) -> usize
         (length (shownLine (now (entry .entry)))) ⌝ }
 {
     let a = text::put_letter(out, 0, 67);
-    let b = text::put_word(out, a, wide(entry[1]));
-    let c = text::put_word(out, b, header::number(entry, 2, 8));
+    let b = text::put_word(out, a, bytes::wide(entry[1]));
+    let c = text::put_word(out, b, bytes::number(entry, 2, 8));
     text::put_letter(out, c, 10)
 }
 
@@ -41,12 +29,12 @@ fn put_accepted(out: &mut [u8], n: usize, buffers: &[u8], entry: &[u8]) -> usize
         ≡ added (overlay (now (out .entry)) 0 (acceptedLine n (now (buffers .entry)) (now (entry .entry))))
         (length (acceptedLine n (now (buffers .entry)) (now (entry .entry)))) ⌝ }
 {
-    let from = index(entry[1]) * n;
+    let from = bytes::index(entry[1]) * n;
     let to = from + n;
     let a = text::put_letter(out, 0, 82);
-    let b = text::put_word(out, a, wide(entry[1]));
-    let c = text::put_word(out, b, wide(entry[2]));
-    let d = text::put_word(out, c, header::number(entry, 3, 4));
+    let b = text::put_word(out, a, bytes::wide(entry[1]));
+    let c = text::put_word(out, b, bytes::wide(entry[2]));
+    let d = text::put_word(out, c, bytes::number(entry, 3, 4));
     let e = text::put_hex_word(out, d, &buffers[from..to]);
     text::put_letter(out, e, 10)
 }
@@ -58,8 +46,8 @@ fn put_gave_up(out: &mut [u8], entry: &[u8]) -> usize
         (length (gaveUpLine (now (entry .entry)))) ⌝ }
 {
     let a = text::put_letter(out, 0, 71);
-    let b = text::put_word(out, a, wide(entry[1]));
-    let c = text::put_word(out, b, wide(entry[2]));
+    let b = text::put_word(out, a, bytes::wide(entry[1]));
+    let c = text::put_word(out, b, bytes::wide(entry[2]));
     text::put_letter(out, c, 10)
 }
 
@@ -96,6 +84,6 @@ pub(crate) fn put_end(out: &mut [u8], done: usize, e: Ending) -> usize
     let b = text::put_letter(out, a, 78);
     let c = text::put_letter(out, b, 68);
     let d = text::put_word(out, c, done as u64);
-    let f = text::put_word(out, d, wide(protocol::ending_number(e)));
+    let f = text::put_word(out, d, bytes::wide(protocol::ending_number(e)));
     text::put_letter(out, f, 10)
 }

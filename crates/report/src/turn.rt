@@ -1,4 +1,4 @@
-// The printed run, one turn after another.
+// One turn after another.
 ghost use mathlib.Core.Path.{_≡_};
 ghost use Prim.Native.Nat.{_+_, _≤_, _<_};
 ghost use lib.ListN.{length, drop};
@@ -9,11 +9,9 @@ ghost use mathlib.Core.Bool.{true, false};
 ghost use Rattle.report.specs.Header.{header, headerIn, parse as parseOf};
 ghost use Rattle.report.specs.Found.{foundIn};
 ghost use Rattle.report.specs.Text.{endLine};
-ghost use Rattle.report.specs.Turn.{spaceOf, startOf, turnOf, carryOut, nextWidth};
-ghost use Rattle.report.specs.Calls.{started, toldAll, toldFrom};
+ghost use Rattle.report.specs.Turn.{turnOf, carryOut, nextWidth};
+ghost use Rattle.report.specs.Calls.{toldAll, toldFrom};
 use crate::Progress;
-use crate::Space;
-use crate::Started;
 use crate::Told;
 use crate::header;
 use crate::header::Header;
@@ -22,85 +20,6 @@ use crate::line;
 use protocol::Ending;
 use protocol::Refusal;
 use protocol::Writer;
-
-// How long the page and all buffers are.
-pub fn room(input: &[u8], more: bool) -> Space
-    ensures { λ r. ⌜ r ≡ spaceOf (parseOf more (now (input .entry))) ⌝ }
-    ensures { λ r. ⌜ (r .page ≤ 280) × (r .buffers ≤ 4096) ⌝ }
-{
-    let p = header::parse(input, more);
-    let Parsed::Is(h) = p else {
-        return Space {
-            page: 0,
-            buffers: 0,
-        };
-    };
-    let m = h.m;
-    let f = h.format;
-    Space {
-        page: m + m + f.q + f.n + f.q,
-        buffers: f.readers * f.n,
-    }
-}
-
-// Opens the page that the header describes. If the header is refused, nothing is changed, and the first turn tells it.
-pub fn start(
-    input: &[u8],
-    more: bool,
-    page: &mut [u8],
-    writer: Writer,
-    kinds: &mut [u8; 16],
-    allowed: &mut [u8; 16],
-    finished: &mut [u8; 16],
-    steps: &mut [usize; 16],
-    digits: &mut [u8; 256],
-    buffers: &mut [u8],
-) -> Started
-    ensures { λ r. ⌜ started r
-        (here (now (page .exit)) (r .writer)
-        (store (now (kinds .exit)) (now (allowed .exit)) (now (finished .exit)) (now (steps .exit))
-        (now (digits .exit))) (now (buffers .exit)))
-        ≡ startOf
-        (here (now (page .entry)) writer
-        (store (now (kinds .entry)) (now (allowed .entry)) (now (finished .entry)) (now (steps .entry))
-        (now (digits .entry))) (now (buffers .entry))) (parseOf more (now (input .entry))) ⌝ }
-{
-    let p = header::parse(input, more);
-    let Parsed::Is(h) = p else {
-        return Started {
-            progress: Progress { at: 0, done: 0 },
-            writer: writer,
-        };
-    };
-    let m = h.m;
-    let f = h.format;
-    let all = header::bases(input, m);
-    let from = h.first;
-    let to = from + f.n;
-    let o = page::open(
-        f,
-        &all[..m],
-        page,
-        writer,
-        f.readers,
-        kinds,
-        allowed,
-        finished,
-        steps,
-        digits,
-        buffers,
-        h.count,
-        &input[from..to],
-    );
-    let w = o.writer;
-    Started {
-        progress: Progress {
-            at: h.commands,
-            done: 0,
-        },
-        writer: w,
-    }
-}
 
 // The last turn.
 fn ends(p: Progress, w: Writer, e: Ending, line: &mut [u8; 640]) -> Told

@@ -3,8 +3,8 @@ use borrow.Author.Needs.{needs}
 use native.Mathlib.Omega.{arith}
 use Prim.Native.Nat.{_+_}
 use Rattle.report.proofs.Laws.Numbers.{two-bytes}
-use Rattle.report.proofs.header.length_at.Statement.{statement}
-use Rattle.report.proofs.header.length_at.Tie as tie
+use Rattle.report.proofs.bytes.length_at.Statement.{statement}
+use Rattle.report.proofs.bytes.length_at.Tie as tie
 
 shared-slice-read-index : tie.Need-shared-slice-read-index
 shared-slice-read-index c = search needs

@@ -3,8 +3,8 @@ use borrow.Author.Needs.{needs}
 use native.Mathlib.Omega.{arith}
 use Prim.Native.Nat.{_+_}
 use Rattle.report.proofs.Laws.Numbers.{two-bytes}
-use Rattle.report.proofs.header.base_at.Statement.{statement}
-use Rattle.report.proofs.header.base_at.Tie as tie
+use Rattle.report.proofs.bytes.base_at.Statement.{statement}
+use Rattle.report.proofs.bytes.base_at.Tie as tie
 
 shared-slice-read-base : tie.Need-shared-slice-read-base
 shared-slice-read-base c = search needs

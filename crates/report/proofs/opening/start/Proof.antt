@@ -12,8 +12,8 @@ use Rattle.page.specs.Carry.{Here, here}
 use Rattle.report.specs.Header.{number}
 use Rattle.report.proofs.Laws.Taken.{Taken, taken, refused-is}
 use Rattle.report.proofs.Turns.Calls.{form-is, first-is, start-refused, start-opened}
-use Rattle.report.proofs.turn.start.Statement.{statement}
-use Rattle.report.proofs.turn.start.Tie as tie
+use Rattle.report.proofs.opening.start.Statement.{statement}
+use Rattle.report.proofs.opening.start.Tie as tie
 
 -- what is lent
 abbrev here-of : tie.Start → Here

@@ -5,8 +5,8 @@ use native.Mathlib.Omega.{arith}
 use Rattle.report.specs.Turn.{spaceOf}
 use Rattle.report.proofs.Laws.Taken.{Taken, taken, refused-is}
 use Rattle.report.proofs.Laws.Spaces.{space-is, page-fits, buffers-fit}
-use Rattle.report.proofs.turn.room.Statement.{statement}
-use Rattle.report.proofs.turn.room.Tie as tie
+use Rattle.report.proofs.opening.room.Statement.{statement}
+use Rattle.report.proofs.opening.room.Tie as tie
 
 parse-requires : tie.Need-parse-requires
 parse-requires c κs = search needs

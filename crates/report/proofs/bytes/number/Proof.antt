@@ -7,8 +7,8 @@ use lib.ListN.{getD, take, drop}
 use Rattle.page.proofs.Common.Bytes.{whole, whole-on, whole-end}
 use Rattle.report.specs.Header.{number}
 use Rattle.report.proofs.Laws.Numbers.{part-length, part-at, part-fits}
-use Rattle.report.proofs.header.number.Statement.{statement}
-use Rattle.report.proofs.header.number.Tie as tie
+use Rattle.report.proofs.bytes.number.Statement.{statement}
+use Rattle.report.proofs.bytes.number.Tie as tie
 
 abbrev Inv-loop : tie.InvT-loop
 Inv-loop s at k x₀ i₀ x i = (i ≤ k) × (whole (take k (drop at s)) x i ≡ number k at s)
