@@ -1,0 +1,97 @@
+-- Each turn that is not the last goes forward in the input.
+use borrow.Author.Needs.{needs}
+use borrow.Author.Tests.{not-true}
+use mathlib.Core.Path.{_≡_, refl, sym}
+use mathlib.Core.Bool.{Bool, true, false, cond}
+use Prim.Native.Nat.{ℕ, suc, _-_, _≤_, _<_}
+use native.Mathlib.Omega.{arith}
+use lib.ListN.{length}
+use lib.Seq.{length-take-le}
+use Rattle.cases.proofs.begins.Statement.{statement}
+use Rattle.cases.proofs.begins.Tie as tie
+
+abbrev Inv-loop : tie.InvT-loop
+Inv-loop input more page₀ buffers₀ output kinds₀ allowed₀ finished₀ steps₀ digits₀ line₀ p₀ w₀ last₀ same₀
+    page buffers kinds allowed finished steps digits line p w last same =
+    (length page ≡ length page₀) × (length buffers ≡ length buffers₀)
+
+abbrev μ-loop : tie.MeasureT-loop
+μ-loop input more page₀ buffers₀ output kinds₀ allowed₀ finished₀ steps₀ digits₀ line₀ p₀ w₀ last₀ same₀
+    page buffers kinds allowed finished steps digits line p w last same =
+    cond last 0 (suc (length input - p .at))
+
+no-writer-requires : tie.Need-no-writer-requires Inv-loop μ-loop
+no-writer-requires c κs = search needs
+
+start-requires : tie.Need-start-requires Inv-loop μ-loop
+start-requires c κs = search needs
+
+loop-holds : tie.Need-loop-holds Inv-loop μ-loop
+loop-holds c = search needs
+
+next-requires : tie.Need-next-requires Inv-loop μ-loop
+next-requires c κs = search needs
+
+array-share-prefix-line : tie.Need-array-share-prefix-line Inv-loop μ-loop
+array-share-prefix-line c = search needs
+
+slice-aggregate-goes-on : tie.Need-slice-aggregate-goes-on Inv-loop μ-loop
+slice-aggregate-goes-on c = sym (length-take-le _ _ (array-share-prefix-line (c .before)))
+
+goes-on-requires : tie.Need-goes-on-requires Inv-loop μ-loop
+goes-on-requires c κs = search needs
+
+falls : (n a b : ℕ) (old new : Bool) → old ≡ false → (new ≡ false → (a < b) × (b ≤ n))
+    → cond new 0 (suc (n - b)) < cond old 0 (suc (n - a))
+falls n a b old true e f = rw e (omega arith)
+falls n a b old false e f =
+    let (low, high) = f refl in
+    rw e (omega arith)
+
+-- a turn's beginning and the entry
+abbrev in-loop : tie.After-next Inv-loop μ-loop → tie.In-loop Inv-loop μ-loop
+in-loop c = c .before .before .before .before .before .before .before .before .before
+
+abbrev start-of : tie.At-loop Inv-loop μ-loop → tie.Start Inv-loop μ-loop
+start-of c =
+    c .before .before .before .before .before .before .before .before .before .before .before .before .before .before
+    .before .before .before .before .before
+
+loop-less : tie.Need-loop-less Inv-loop μ-loop
+loop-less c =
+    let n = c .before .before .before .before .before .before .before .before in
+    let i = in-loop n in
+    let l = i .before .loop in
+    falls (length (start-of (i .before) .args .input .now)) (l .p .at) (n .next .result .progress .at) (l .last)
+    (n .next .result .last) (not-true _ (i .loop-test .taken)) (n .next .ensures .1 .0)
+
+loop-again : tie.Need-loop-again Inv-loop μ-loop
+loop-again c = search needs
+
+same-length : tie.Need-same-length Inv-loop μ-loop
+same-length c = search needs
+
+same-length-2 : tie.Need-same-length-2 Inv-loop μ-loop
+same-length-2 c = search needs
+
+returns : tie.Need-returns Inv-loop μ-loop
+returns c = search needs
+
+pub begins-spec : {M : Type 1} → statement M
+begins-spec =
+    tie.close
+    (tie.spec
+    Inv-loop
+    μ-loop
+    no-writer-requires
+    start-requires
+    loop-holds
+    next-requires
+    array-share-prefix-line
+    slice-aggregate-goes-on
+    goes-on-requires
+    loop-less
+    loop-again
+    same-length
+    same-length-2
+    returns)
