@@ -8,28 +8,24 @@ use lib.ListN.{length}
 use Rattle.radix.specs.declared.Count.{Count}
 use Rattle.protocol.specs.Lists.{concat}
 use Rattle.protocol.specs.Form.{Form, goodForm}
-use Rattle.protocol.specs.State.{State, busyWriting}
+use Rattle.protocol.specs.State.{State}
 use Rattle.protocol.specs.Outcome.{entry}
 use Rattle.protocol.specs.Step.{Answer as Meant, refused, done, carry}
 use Rattle.protocol.specs.Memory.{Memory, storedWriting, storedReading, goodLengths}
-use Rattle.protocol.specs.Load.{load, loadWriting, validMemory}
+use Rattle.protocol.specs.Load.{load, validMemory}
 use Rattle.protocol.specs.Run.{openPage, Run, Event, commands, run, runs, left, logged, logAfter}
 use Rattle.protocol.specs.History.{history, fresh}
 use Rattle.protocol.specs.Demand.{handed, Demand3}
 use Rattle.protocol.specs.declared.Command.{Command}
 use Rattle.protocol.specs.declared.Ending.{Ending}
 use Rattle.protocol.specs.declared.Ending.the-variants.{Finished}
-use Rattle.protocol.specs.declared.Refusal.the-variants.{BadFormat, WrongLength, InvalidState, NothingPending, LogFull}
+use Rattle.protocol.specs.declared.Refusal.the-variants.{BadFormat, WrongLength, InvalidState, LogFull}
 use Rattle.protocol.specs.declared.Writer.{Writer}
 use Rattle.page.specs.declared.Answer.{Answer}
 use Rattle.page.specs.declared.Answer.the-variants.{Done, Refused}
-use Rattle.protocol.specs.declared.Outcome.the-variants.{Nothing}
-use Rattle.page.specs.declared.writing.Begun.{Begun}
-use Rattle.page.specs.declared.turn.Carried.{Carried}
 use Rattle.page.specs.declared.Opened.{Opened}
 use Rattle.page.specs.declared.Ran.{Ran}
 use Rattle.page.specs.Store.{Store, putReaders, memoryOf}
-use Rattle.page.specs.Writing.{writingStep}
 
 -- what is lent
 pub record Here : Type 0 where
@@ -69,25 +65,6 @@ onAnswer F room h (done σ o) =
 
 abbrev pub carryHere : Form → List ℕ → (room : ℕ) → Here → Command → After
 carryHere F S room h x = onAnswer F room h (carry F S (load F (memory (F .readers) h)) x)
-
--- a write that begins, or not
-unfoldable pub began : Begun → Writer → Carried
-began (Begun.Now next) w = record { answer = Done Nothing; writer = next }
-began (Begun.Refused why) w = record { answer = Refused why; writer = w }
-
--- the page and the answer after a command to take the writer's next step
-pub record Stepped : Type 0 where
-  pub page : List ℕ
-  pub carried : Carried
-
-abbrev pub stepped : List ℕ → Carried → Stepped
-stepped page c = record { page = page; carried = c }
-
-unfoldable pub writerStepped : Form → List ℕ → List ℕ → Writer → Stepped
-writerStepped F S page w =
-    let x = writingStep F S page (loadWriting w) in
-    cond (busyWriting (loadWriting w)) (stepped (x .page) (record { answer = Done Nothing; writer = x .writer }))
-    (stepped page (record { answer = Refused NothingPending; writer = w }))
 
 -- what holds at every command of a run
 pub record Ready (F : Form) (S : List ℕ) (h : Here) : Type 0 where

@@ -4,5 +4,6 @@ pub mod Writing
 pub mod Decode
 pub mod Entry
 pub mod Check
+pub mod Command
 pub mod Carry
 pub mod Turn

@@ -2,11 +2,16 @@
 //
 // The readers' states are kept in five lent arrays of sixteen, one entry (of `digits`, sixteen bytes) for each reader.
 mod check;
+mod command;
 mod decode;
 mod entry;
 mod opening;
+mod read;
 mod reader;
+mod runs;
+mod start;
 mod turn;
+mod write;
 mod writing;
 
 pub use check::good_format;
@@ -15,7 +20,7 @@ use protocol::Ending;
 use protocol::Outcome;
 use protocol::Refusal;
 use protocol::Writer;
-pub use turn::run;
+pub use runs::run;
 
 // What an opening answers, and the writer as it leaves it.
 pub struct Opened {

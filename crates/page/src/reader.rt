@@ -18,7 +18,7 @@ use radix::Ends;
 use radix::Version;
 use radix::VersionRead;
 
-fn index(x: u8) -> usize
+pub(crate) fn index(x: u8) -> usize
     ensures { λ r. ⌜ r ≡ x ⌝ }
 {
     x as usize

@@ -26,7 +26,6 @@ use Rattle.protocol.specs.Step.{
 }
 use Rattle.protocol.specs.Memory.{storedReading}
 use Rattle.protocol.specs.Load.{loadReading, load}
-use Rattle.protocol.specs.declared.Command.the-variants.{BeginCountRead, BeginRecordRead, ReaderStep, Cancel}
 use Rattle.protocol.specs.declared.Outcome.the-variants.{Nothing}
 use Rattle.protocol.specs.declared.Refusal.{Refusal}
 use Rattle.protocol.specs.declared.Refusal.the-variants.{Busy, NothingPending, NoSuch, LogFull}
@@ -36,14 +35,16 @@ use Rattle.protocol.proofs.Allowed.Kept.{Fine, Kept}
 use Rattle.protocol.proofs.Allowed.Reader.{begun-count, reader-kept}
 use Rattle.page.specs.declared.Answer.the-variants.{Done, Refused}
 use Rattle.page.specs.Store.{putRow, readerAt, putReader}
-use Rattle.page.specs.Reader.{moved, told, stepStore, beginStore, cancelStore}
+use Rattle.page.specs.declared.command.Read.{Read}
+use Rattle.page.specs.Reader.{moved, Told, told, beside, stepStore, beginStore, cancelStore}
+use Rattle.page.specs.Command.{ofReader, beginRecordStore, readsOf, reads}
 use Rattle.page.specs.Carry.{Here, here, holding, After, after, onAnswer, carryHere, Ready}
 use Rattle.page.proofs.Rows.Flat.{put-same}
 use Rattle.page.proofs.Rows.Readers.{Lists16}
 use Rattle.page.proofs.Steps.Meant.{onGather}
 use Rattle.page.proofs.Steps.Step.{step-store}
 use Rattle.page.proofs.Steps.Begin.{begin-count, begin-record, cancel}
-use Rattle.page.proofs.Carry.Meant.{onMoved, onTold}
+use Rattle.page.proofs.Carry.Meant.{onMoved, onTold, answer-nothing, unless}
 use Rattle.page.proofs.Carry.Stands.{
   stored-whole,
   now,
@@ -54,19 +55,11 @@ use Rattle.page.proofs.Carry.Stands.{
   holding-reader,
 }
 use Rattle.page.proofs.Carry.Valid.{reader-here}
-use Rattle.page.proofs.Carry.Writer.{answer-nothing}
 
--- a test that both sides take first
-first-test :
-    (F : Form) (room : ℕ) (h : Here) (t : Bool) (why : Refusal) (x : Meant) (y : After) →
-    (t ≡ false → onAnswer F room h x ≡ y) → onAnswer F room h (refuseIf t why x) ≡ cond t (after (Refused why) h) y
-unfolding onAnswer
-first-test F room h true why x y e = refl
-first-test F room h false why x y e = e refl
-
-neither : (a b : Bool) → a || b ≡ false → (a ≡ false) × (b ≡ false)
-neither true b h = absurd (let z : _≡_ {A = ℕ} 0 1 = cc in omega arith)
-neither false b h = (refl, h)
+-- two tests for one refusal
+two-tests : (a b : Bool) (why : Refusal) (x : Meant) → refuseIf (a || b) why x ≡ refuseIf a why (refuseIf b why x)
+two-tests true b why x = refl
+two-tests false b why x = refl
 
 module _
     (F : Form)
@@ -108,15 +101,8 @@ module _
     busy-first y g =
         ap (λ (z : Reading). onAnswer F room h (refuseIf (busyReading z) Busy (begins σ r y)))
         (reading-now F S h ready lists r inside)
-        ∙ go (busyReading x)
-      where
-        go : (t : Bool)
-            → onAnswer F room h (refuseIf t Busy (begins σ r y))
-            ≡ onMoved h
-            (cond t (moved (Refused Busy) (h .store))
-            (moved (Done Nothing) (putReader (h .store) r (storedReading F y))))
-        go true = unfold onAnswer in refl
-        go false = begins-here y g
+        ∙ unless F room h (onMoved h) (busyReading x) Busy (begins σ r y) {r = moved (Refused Busy) (h .store)}
+        {y = moved (Done Nothing) (putReader (h .store) r (storedReading F y))} refl (λ _. begins-here y g)
 
     cancels : onAnswer F room h (cond (busyReading (readingOf σ r)) (begins σ r idle) (refused NothingPending))
         ≡ onMoved h (cancelStore (h .store) r)
@@ -171,34 +157,28 @@ module _
         ∙ sym (step-store F (h .page) (h .store) (h .buffers) r room (reader-here F S h ready lists r inside)))
 
 module _ (F : Form) (S : List ℕ) (room : ℕ) (h : Here) (ready : Ready F S h) (lists : Lists16 (h .store)) where
-  pub carry-begin-count :
-      (r : ℕ) →
-      carryHere F S room h (BeginCountRead r)
-      ≡ cond (leb (F .readers) r) (after (Refused NoSuch) h) (onMoved h (beginStore 1 0 (h .store) r))
-  unfolding carry
-  carry-begin-count r =
-      first-test F room h (leb (F .readers) r) NoSuch _ (onMoved h (beginStore 1 0 (h .store) r))
-      (λ e.
-      let inside : r < F .readers = leb-false (F .readers) r e in
+  -- what a reader's command means, where there is that reader
+  read-count : (r : ℕ) → r < F .readers → onAnswer F room h
+      (refuseIf (busyReading (readingOf (now F S h ready lists) r)) Busy
+      (begins (now F S h ready lists) r (ofCount [])))
+      ≡ onMoved h (beginStore 1 0 (h .store) r)
+  read-count r inside =
       busy-first F S room h ready lists r inside (ofCount []) (begun-count F (in-form F S h ready lists))
       ∙ ap (onMoved h)
-      (sym (begin-count F (in-form F S h ready lists) (h .store) r
-      (reader-here F S h ready lists r inside .kept))))
+      (sym (begin-count F (in-form F S h ready lists) (h .store) r (reader-here F S h ready lists r inside .kept)))
 
-  pub carry-begin-record :
-      (r attempts : ℕ) →
-      carryHere F S room h (BeginRecordRead r attempts)
-      ≡ cond (leb (F .readers) r || eqb attempts 0) (after (Refused NoSuch) h)
-      (onMoved h (beginStore 2 attempts (h .store) r))
-  unfolding carry
-  carry-begin-record r attempts =
-      first-test F room h (leb (F .readers) r || eqb attempts 0) NoSuch _
-      (onMoved h (beginStore 2 attempts (h .store) r))
+  read-record : (r attempts : ℕ) → r < F .readers → onAnswer F room h
+      (refuseIf (eqb attempts 0) NoSuch
+      (refuseIf (busyReading (readingOf (now F S h ready lists) r)) Busy
+      (begins (now F S h ready lists) r (ofRecord attempts 0 0 []))))
+      ≡ onMoved h (beginRecordStore attempts (h .store) r)
+  unfolding beginRecordStore
+  read-record r attempts inside =
+      unless F room h (onMoved h) (eqb attempts 0) NoSuch _ {r = moved (Refused NoSuch) (h .store)}
+      {y = beginStore 2 attempts (h .store) r} refl
       (λ e.
-      let (a, n) = neither (leb (F .readers) r) (eqb attempts 0) e in
-      let inside : r < F .readers = leb-false (F .readers) r a in
       busy-first F S room h ready lists r inside (ofRecord attempts 0 0 []) (
-        omega (arith, eqb-false attempts 0 n),
+        omega (arith, eqb-false attempts 0 e),
         omega (arith, in-form F S h ready lists .versions),
         omega arith,
         refl,
@@ -207,22 +187,25 @@ module _ (F : Form) (S : List ℕ) (room : ℕ) (h : Here) (ready : Ready F S h)
       (sym (begin-record F (in-form F S h ready lists) (h .store) r
       (reader-here F S h ready lists r inside .kept) attempts)))
 
-  pub carry-reader :
-      (r : ℕ) →
-      carryHere F S room h (ReaderStep r)
-      ≡ cond (leb (F .readers) r) (after (Refused NoSuch) h)
-      (onTold h (stepStore F (h .page) (h .store) (h .buffers) r room))
-  unfolding carry
-  carry-reader r =
-      first-test F room h (leb (F .readers) r) NoSuch _
-      (onTold h (stepStore F (h .page) (h .store) (h .buffers) r room))
-      (λ e. steps F S room h ready lists r (leb-false (F .readers) r e))
+  -- the reader's number, tested first
+  known :
+      (r : ℕ) (x : Meant) (y : Told) → (r < F .readers → onAnswer F room h x ≡ onTold h y) →
+      onAnswer F room h (refuseIf (leb (F .readers) r) NoSuch x)
+      ≡ onTold h (cond (leb (F .readers) r) (told (Refused NoSuch) (h .store) (h .buffers)) y)
+  known r x y e =
+      unless F room h (onTold h) (leb (F .readers) r) NoSuch x {r = told (Refused NoSuch) (h .store) (h .buffers)}
+      {y = y} refl (λ t. e (leb-false (F .readers) r t))
 
-  pub carry-cancel :
-      (r : ℕ) →
-      carryHere F S room h (Cancel r)
-      ≡ cond (leb (F .readers) r) (after (Refused NoSuch) h) (onMoved h (cancelStore (h .store) r))
-  unfolding carry
-  carry-cancel r =
-      first-test F room h (leb (F .readers) r) NoSuch _ (onMoved h (cancelStore (h .store) r))
-      (λ e. cancels F S room h ready lists r (leb-false (F .readers) r e))
+  -- each of a reader's commands
+  pub carry-reads :
+      (r : ℕ) (x : Read) →
+      carryHere F S room h (ofReader r x) ≡ onTold h (reads F (h .page) (h .store) (h .buffers) r room x)
+  unfolding ofReader carry reads readsOf
+  carry-reads r Read.Count = known r _ (beside (beginStore 1 0 (h .store) r) (h .buffers)) (read-count r)
+  carry-reads r (Read.Record attempts) =
+      ap (onAnswer F room h) (two-tests (leb (F .readers) r) (eqb attempts 0) NoSuch _)
+      ∙ known r _ (beside (beginRecordStore attempts (h .store) r) (h .buffers)) (read-record r attempts)
+  carry-reads r Read.Step =
+      known r _ (stepStore F (h .page) (h .store) (h .buffers) r room) (λ i. steps F S room h ready lists r i)
+  carry-reads r Read.Cancel =
+      known r _ (beside (cancelStore (h .store) r) (h .buffers)) (λ i. cancels F S room h ready lists r i)

@@ -13,8 +13,8 @@ use Rattle.page.specs.Carry.{Here, here, Ready, runHere, wentHere}
 use Rattle.page.proofs.Common.Forms.{good-counts, good-versions}
 use Rattle.page.proofs.Loop.Begins.{run-refused-at, run-begins}
 use Rattle.page.proofs.Loop.Carries.{carries}
-use Rattle.page.proofs.turn.run.Statement.{statement}
-use Rattle.page.proofs.turn.run.Tie as tie
+use Rattle.page.proofs.runs.run.Statement.{statement}
+use Rattle.page.proofs.runs.run.Tie as tie
 
 -- the form and what is lent
 abbrev form-of : tie.Start → Form
@@ -26,13 +26,9 @@ here-of s =
     here (a .page .now) (a .writer)
     (store (a .kinds .now) (a .allowed .now) (a .finished .now) (a .steps .now) (a .digits .now)) (a .buffers .now)
 
-abbrev known : tie.After-checked → tie.After-lengths-are
-known c = c .before .before .before .before .before .before .before .before
-
 abbrev start : tie.After-checked → tie.Start
 start c =
-    known c .before .before .before .before .before .before .before .before .before .before .before .before .before
-    .before .before .before .before
+    c .before .before .before .before .before .before .before .before .before .before .before .before .before .before
 
 -- what the checks told, where they found nothing
 pub begins :
@@ -47,7 +43,7 @@ begins c e =
     let s = start c in
     let a = s .args in
     run-begins (form-of s) (a .records .now) (a .readers) (here-of s) (a .commands .now) (a .log .now)
-    (sym (c .checked .ensures) ∙ e)
+    (sym (c .checked .ensures .0) ∙ e)
 
 abbrev passed : tie.After-enum-told → tie.After-checked
 passed c = c .before .before
@@ -61,9 +57,6 @@ few c =
 shared : (c : tie.After-enum-told) → let f = start (passed c) .args .format in
     take (f .q) (replicate 4 (f .base)) ≡ replicate (f .q) (f .base)
 shared c = let f = start (passed c) .args .format in take-replicate (f .q) 4 (f .base) (few c)
-
-lengths-are-requires : tie.Need-lengths-are-requires
-lengths-are-requires c κs = search needs
 
 checked-requires : tie.Need-checked-requires
 checked-requires c κs = search needs
@@ -88,7 +81,7 @@ returns c =
       rw (c .refused-run .ensures)
           (sym
           (run-refused-at (form-of s) (a .records .now) (a .readers) (here-of s) (a .commands .now) (a .log .now) _
-          (sym (k .checked .ensures) ∙ c .before .before .e .given .1))),
+          (sym (k .checked .ensures .0) ∙ c .before .before .e .given .1))),
       carries _ _ _ _,
     )
 
@@ -125,7 +118,7 @@ run-all-requires c κs =
     let w = made c in
     let e = w .before .before .before in (
       begins (passed e) (e .enum-told .given .1) .1,
-      known (passed e) .lengths-are .ensures,
+      passed e .checked .ensures .1,
       record {
         counts = w .before .weights .ensures .1;
         countsLong = sym (w .before .weights .ensures .0);
@@ -154,7 +147,6 @@ pub run-spec : {M : Type 1} → statement M
 run-spec =
     tie.close
     (tie.spec
-    lengths-are-requires
     checked-requires
     enum-known-e
     refused-run-requires

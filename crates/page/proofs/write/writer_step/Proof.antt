@@ -2,8 +2,8 @@
 use borrow.Author.Needs.{needs}
 use Rattle.page.proofs.Laws.Writers.Writers.{at-work}
 use Rattle.page.proofs.Laws.Turns.Writes.{nothing-pending, next-step}
-use Rattle.page.proofs.turn.writer_step.Statement.{statement}
-use Rattle.page.proofs.turn.writer_step.Tie as tie
+use Rattle.page.proofs.write.writer_step.Statement.{statement}
+use Rattle.page.proofs.write.writer_step.Tie as tie
 
 -- the entry, from the branch on the kind
 abbrev start : tie.After-shared-slice-known5 → tie.Start

@@ -19,8 +19,8 @@ use Rattle.page.proofs.Loop.Going.{
   over,
 }
 use Rattle.page.proofs.Loop.Turns.{goes, stops}
-use Rattle.page.proofs.turn.run_all.Statement.{statement}
-use Rattle.page.proofs.turn.run_all.Tie as tie
+use Rattle.page.proofs.runs.run_all.Statement.{statement}
+use Rattle.page.proofs.runs.run_all.Tie as tie
 
 abbrev Inv-loop : tie.InvT-loop
 Inv-loop format bases weights vb vw page₀ kinds₀ allowed₀ finished₀ steps₀ digits₀ buffers₀ records commands log₀ p₀ w₀

@@ -15,7 +15,7 @@ use Rattle.protocol.specs.declared.Ending.{Ending}
 use Rattle.protocol.specs.declared.Refusal.the-variants.{InvalidState}
 use Rattle.protocol.proofs.InRange.{in-range}
 use Rattle.protocol.proofs.Memory.Stored.{lengths-parts}
-use Rattle.page.specs.Store.{store}
+use Rattle.page.specs.Store.{store, Lists16}
 use Rattle.page.specs.Check.{writerOk, readersOk}
 use Rattle.page.specs.Carry.{Here, here, memory, startOf}
 use Rattle.page.proofs.Loop.Begins.{
@@ -27,8 +27,8 @@ use Rattle.page.proofs.Loop.Begins.{
   start-invalid,
   start-finished,
 }
-use Rattle.page.proofs.turn.checked.Statement.{statement}
-use Rattle.page.proofs.turn.checked.Tie as tie
+use Rattle.page.proofs.start.checked.Statement.{statement}
+use Rattle.page.proofs.start.checked.Tie as tie
 
 -- the form and what is lent
 abbrev form-of : tie.Start → Form
@@ -42,7 +42,7 @@ here-of s =
 
 -- where the first tests have passed
 abbrev start₁ : tie.Else1 → tie.Start
-start₁ c = c .before .before .before .before .before .before
+start₁ c = c .before .before .before .before .before .before .before .before .before .before .before .before
 
 abbrev start₂ : tie.Else2 → tie.Start
 start₂ c = start₁ (c .before .before)
@@ -50,13 +50,25 @@ start₂ c = start₁ (c .before .before)
 abbrev start₄ : tie.Else4 → tie.Start
 start₄ c = start₂ (c .before .before .before)
 
+-- the lengths of the arrays
+abbrev listed₁ : tie.Else1 → tie.After-lengths-are
+listed₁ c = c .before .before
+
+abbrev listed₂ : tie.Else2 → tie.After-lengths-are
+listed₂ c = listed₁ (c .before .before)
+
+lengths-are-requires : tie.Need-lengths-are-requires
+lengths-are-requires c κs = search needs
+
 good-format-requires : tie.Need-good-format-requires
 good-format-requires c κs = search needs
 
 returns : tie.Need-returns
 returns c =
-    let g = c .before in
-    sym (start-badFormat _ _ _ _ (sym (g .good-format .ensures) ∙ not-true _ (c .if1 .taken)))
+    let g = c .before in (
+      sym (start-badFormat _ _ _ _ (sym (g .good-format .ensures) ∙ not-true _ (c .if1 .taken))),
+      g .before .lengths-are .ensures,
+    )
 
 good-here : (c : tie.Else1) → goodForm (form-of (start₁ c)) ≡ true
 good-here c = sym (c .before .good-format .ensures) ∙ not-false _ (c .if1 .left)
@@ -67,12 +79,14 @@ good-lengths-requires c κs = good-here c
 returns-2 : tie.Need-returns-2
 returns-2 c =
     let g = c .before in
-    let s = start₁ (g .before) in
-    sym
-    (start-wrongLent _ _ _ _ (good-here (g .before))
-    (lent-lengths (form-of s) (s .args .readers) (here-of s)
-    ∙ sym (g .good-lengths .ensures)
-    ∙ not-true _ (c .if2 .taken)))
+    let s = start₁ (g .before) in (
+      sym
+          (start-wrongLent _ _ _ _ (good-here (g .before))
+          (lent-lengths (form-of s) (s .args .readers) (here-of s)
+          ∙ sym (g .good-lengths .ensures)
+          ∙ not-true _ (c .if2 .taken))),
+      listed₁ (g .before) .lengths-are .ensures,
+    )
 
 lengths-here : (c : tie.Else2) →
     let s = start₂ c in
@@ -90,9 +104,11 @@ rem-if3 c =
 
 returns-3 : tie.Need-returns-3
 returns-3 c =
-    let e = c .before in
-    sym
-    (start-wrongRecords _ _ _ _ (good-here (e .before .before)) (lengths-here e) (ne-eqb _ _ (c .if3 .taken)))
+    let e = c .before in (
+      sym
+          (start-wrongRecords _ _ _ _ (good-here (e .before .before)) (lengths-here e) (ne-eqb _ _ (c .if3 .taken))),
+      listed₂ e .lengths-are .ensures,
+    )
 
 page-valid-requires : tie.Need-page-valid-requires
 page-valid-requires c κs =
@@ -110,16 +126,19 @@ valid-here c =
     let e = c .before in
     let s = start₂ e in
     lent-valid (form-of s) (s .args .records .now) (s .args .readers) (here-of s) (good-here (e .before .before))
-    (s .pre) (lengths-here e)
+    (listed₂ e .lengths-are .ensures) (lengths-here e)
 
 invalid : (c : tie.Else3) →
     let s = start₂ (c .before) in
     validMemory (form-of s) (s .args .records .now) (memory (s .args .readers) (here-of s)) ≡ false →
-    Ending.Refused InvalidState ≡ startOf (form-of s) (s .args .records .now) (s .args .readers) (here-of s)
+    (Ending.Refused InvalidState ≡ startOf (form-of s) (s .args .records .now) (s .args .readers) (here-of s))
+    × Lists16 (here-of s .store)
 invalid c h =
-    let e = c .before in
-    sym
-    (start-invalid _ _ _ _ (good-here (e .before .before)) (lengths-here e) (eq-eqb _ _ (c .if3 .left)) h)
+    let e = c .before in (
+      sym
+          (start-invalid _ _ _ _ (good-here (e .before .before)) (lengths-here e) (eq-eqb _ _ (c .if3 .left)) h),
+      listed₂ e .lengths-are .ensures,
+    )
 
 returns-4 : tie.Need-returns-4
 returns-4 c =
@@ -181,21 +200,24 @@ returns-7 : tie.Need-returns-7
 returns-7 c =
     let r = c .before in
     let w = r .before .before in
-    let e = w .before .before .before .before in
-    sym
-    (start-finished _ _ _ _ (good-here (e .before .before .before)) (lengths-here (e .before))
-    (eq-eqb _ _ (e .if3 .left))
-    (valid-here e
-    ∙ rw (
-      page-here (w .before .before),
-      writer-here w,
-      sym (r .readers-valid .ensures) ∙ not-false _ (c .if6 .left),
-    )))
+    let e = w .before .before .before .before in (
+      sym
+          (start-finished _ _ _ _ (good-here (e .before .before .before)) (lengths-here (e .before))
+          (eq-eqb _ _ (e .if3 .left))
+          (valid-here e
+          ∙ rw (
+            page-here (w .before .before),
+            writer-here w,
+            sym (r .readers-valid .ensures) ∙ not-false _ (c .if6 .left),
+          ))),
+      listed₂ (e .before) .lengths-are .ensures,
+    )
 
 pub checked-spec : {M : Type 1} → statement M
 checked-spec =
     tie.close
     (tie.spec
+    lengths-are-requires
     good-format-requires
     returns
     good-lengths-requires

@@ -1,8 +1,8 @@
 -- Each return is one clause of `began`.
 use borrow.Author.Needs.{needs}
-use Rattle.page.specs.Carry.{began}
-use Rattle.page.proofs.turn.began.Statement.{statement}
-use Rattle.page.proofs.turn.began.Tie as tie
+use Rattle.page.specs.Command.{began}
+use Rattle.page.proofs.write.began.Statement.{statement}
+use Rattle.page.proofs.write.began.Tie as tie
 
 enum-known-b : tie.Need-enum-known-b
 enum-known-b c = search needs
