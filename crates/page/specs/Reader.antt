@@ -56,6 +56,10 @@ again t i =
     store (t .kinds) (t .allowed) (set (t .finished) i (getD (t .finished) i 0 + 1)) (set (t .steps) i 0)
     (putRow 16 i (replicate 16 0) (t .digits))
 
+-- the store with a digit at the last place of reader i's second copy
+abbrev pub stored : Store → (i d : ℕ) → Store
+stored t i d = store (t .kinds) (t .allowed) (t .finished) (t .steps) (set (t .digits) (i * 16 + 8) d)
+
 -- w entries from a place on
 abbrev pub part : (from w : ℕ) → List ℕ → List ℕ
 part from w l = take w (drop from l)
@@ -90,6 +94,17 @@ countStore F page t i room =
 -- the version that q digits from a place on say
 unfoldable pub versionAt : Form → ℕ → List ℕ → Version
 versionAt F from digits = record { 0 = value (versionBases F) (part from (F .q) digits) }
+
+-- whole attempts, by their versions, where v1's first digit is stored already: a refused step puts it back
+unfoldable pub acceptStore : Store → (i room used : ℕ) → Version → Moved
+acceptStore t i room used v =
+    cond (ltb room 7) (moved (Refused LogFull) (stored t i 0)) (moved (Done (Accepted i used v)) (cleared t i))
+
+unfoldable pub failStore : (n : ℕ) → Store → List ℕ → (i room used most : ℕ) → Told
+failStore n t buffers i room used most =
+    cond (ltb used most) (told (Done Nothing) (again t i) buffers)
+    (cond (ltb room 3) (told (Refused LogFull) (stored t i 0) buffers)
+    (told (Done (GaveUp i used)) (cleared t i) (putRow n i (replicate n 0) buffers)))
 
 unfoldable pub endAttemptStore : Form → List ℕ → Store → List ℕ → (i room : ℕ) → Told
 endAttemptStore F page t buffers i room =

@@ -1,5 +1,6 @@
 // The checks at the start of a call: refusals 1 to 3.
 ghost use mathlib.Core.Path.{_≡_};
+ghost use mathlib.Core.List.{[]};
 ghost use mathlib.Core.Bool.{true, _&&_};
 ghost use Prim.Native.Nat.{_+_, _*_, _≤_, _<_};
 ghost use lib.Dec.{eqb, ltb};
@@ -8,7 +9,7 @@ ghost use Rattle.radix.specs.Digits.{product, valid};
 ghost use Rattle.radix.specs.Answers.{goodBases};
 ghost use Rattle.protocol.specs.Form.{formOf, versionBases, goodForm, countSteps, recordSteps};
 ghost use Rattle.protocol.specs.Step.{inRecords};
-ghost use Rattle.protocol.specs.Allowed.{allowedPage};
+ghost use Rattle.protocol.specs.Allowed.{allowedPage, versionDigits};
 ghost use Rattle.page.specs.Store.{store};
 ghost use Rattle.page.specs.Check.{eightOk, gatheredOk, writerOk, readerOk, readersOk};
 use protocol::Format;
@@ -218,6 +219,22 @@ fn digits_valid(bases: &[u16], digits: &[u8], i: usize, g: usize) -> bool
     eight_valid(bases, digits, i * 16 + 8, w - (g - w), w)
 }
 
+// How many digits of versions an attempt has gathered after k steps.
+fn gathered(format: Format, k: usize) -> usize
+    requires { ⌜ (format .q ≤ 4) × (format .n ≤ 256) ⌝ }
+    ensures { λ r. ⌜ r ≡ versionDigits (formOf [] format) k ⌝ }
+{
+    let q = format.q;
+    let n = format.n;
+    if k < q {
+        return k;
+    }
+    if k < q + n {
+        return q;
+    }
+    k - n
+}
+
 // Is reader i's state one that the format allows?
 fn reader_valid(
     format: Format,
@@ -239,21 +256,13 @@ fn reader_valid(
         (now (digits .entry))) i ⌝ }
 {
     let m = bases.len();
-    let q = format.q;
-    let n = format.n;
     let kind = kinds[i];
     let k = steps[i];
     if kind == 2 {
-        if allowed[i] <= finished[i] || q + n + q <= k {
+        if allowed[i] <= finished[i] || format.q + format.n + format.q <= k {
             return false;
         }
-        if k < q {
-            return digits_valid(version_bases, digits, i, k);
-        }
-        if k < q + n {
-            return digits_valid(version_bases, digits, i, q);
-        }
-        return digits_valid(version_bases, digits, i, k - n);
+        return digits_valid(version_bases, digits, i, gathered(format, k));
     }
     if allowed[i] != 0 || finished[i] != 0 {
         return false;

@@ -7,7 +7,7 @@ ghost use Rattle.radix.specs.Answers.{goodBases};
 ghost use Rattle.protocol.specs.Form.{formOf, recordSteps};
 ghost use Rattle.page.specs.Store.{store, putRow, Lists16};
 ghost use Rattle.page.specs.Reader.{moved, told, cleared, again, countedAt, versionAt, endCountStore};
-ghost use Rattle.page.specs.Reader.{countStore, endAttemptStore, recordStore, stepStore, beginStore};
+ghost use Rattle.page.specs.Reader.{countStore, acceptStore, failStore, endAttemptStore, recordStore, stepStore, beginStore};
 ghost use Rattle.page.specs.Reader.{cancelStore, CountReady, RecordReady, ValidVersion, EndReady, StepReady};
 use crate::Answer;
 use protocol::Format;
@@ -239,8 +239,78 @@ fn version_at(format: Format, bases: &[u16], digits: &[u8], from: usize) -> Vers
     x
 }
 
-// The last step of an attempt: v2 is at the reader's digit 0, v1 at 8. A refused step puts back the digit that it
-// stored.
+// A whole attempt whose versions are equal. A refused step puts back the digit that the last one stored.
+fn accept(
+    who: u8,
+    room: usize,
+    used: u8,
+    v: Version,
+    kinds: &mut [u8; 16],
+    allowed: &mut [u8; 16],
+    finished: &mut [u8; 16],
+    steps: &mut [usize; 16],
+    digits: &mut [u8; 256],
+) -> Answer
+    requires { ⌜ who < 16 ⌝ }
+    ensures { λ r. ⌜ moved r
+        (store (now (kinds .exit)) (now (allowed .exit)) (now (finished .exit)) (now (steps .exit))
+        (now (digits .exit))) ≡ acceptStore
+        (store (now (kinds .entry)) (now (allowed .entry)) (now (finished .entry)) (now (steps .entry))
+        (now (digits .entry))) who room used v ⌝ }
+{
+    let i = index(who);
+    if room < 7 {
+        digits[i * 16 + 8] = 0;
+        return Answer::Refused(Refusal::LogFull);
+    }
+    clear(i, kinds, allowed, finished, steps, digits);
+    Answer::Done(Outcome::Accepted {
+        reader: who,
+        attempts: used,
+        version: v,
+    })
+}
+
+// A whole attempt whose versions differ: the next one begins, or the reader gives up.
+fn fail(
+    who: u8,
+    room: usize,
+    used: u8,
+    most: u8,
+    n: usize,
+    kinds: &mut [u8; 16],
+    allowed: &mut [u8; 16],
+    finished: &mut [u8; 16],
+    steps: &mut [usize; 16],
+    digits: &mut [u8; 256],
+    buffers: &mut [u8],
+) -> Answer
+    requires { ⌜ (who < 16) × (n ≤ 256) × (who * n + n ≤ length (now buffers)) ×
+        (getD (now finished) who 0 < used) ⌝ }
+    ensures { λ r. ⌜ told r
+        (store (now (kinds .exit)) (now (allowed .exit)) (now (finished .exit)) (now (steps .exit))
+        (now (digits .exit))) (now (buffers .exit)) ≡ failStore n
+        (store (now (kinds .entry)) (now (allowed .entry)) (now (finished .entry)) (now (steps .entry))
+        (now (digits .entry))) (now (buffers .entry)) who room used most ⌝ }
+{
+    let i = index(who);
+    if used < most {
+        next_attempt(i, kinds, allowed, finished, steps, digits);
+        return Answer::Done(Outcome::Nothing);
+    }
+    if room < 3 {
+        digits[i * 16 + 8] = 0;
+        return Answer::Refused(Refusal::LogFull);
+    }
+    clear(i, kinds, allowed, finished, steps, digits);
+    clear_buffer(buffers, i, n);
+    Answer::Done(Outcome::GaveUp {
+        reader: who,
+        attempts: used,
+    })
+}
+
+// The last step of an attempt: v2 is at the reader's digit 0, v1 at 8.
 fn end_attempt(
     format: Format,
     bases: &[u16],
@@ -273,31 +343,21 @@ fn end_attempt(
     let most = entry(allowed, i);
     let used = finished[i] + 1;
     if v1.0 == v2.0 {
-        if room < 7 {
-            digits[i * 16 + 8] = 0;
-            return Answer::Refused(Refusal::LogFull);
-        }
-        clear(i, kinds, allowed, finished, steps, digits);
-        return Answer::Done(Outcome::Accepted {
-            reader: who,
-            attempts: used,
-            version: v1,
-        });
+        return accept(who, room, used, v1, kinds, allowed, finished, steps, digits);
     }
-    if used < most {
-        next_attempt(i, kinds, allowed, finished, steps, digits);
-        return Answer::Done(Outcome::Nothing);
-    }
-    if room < 3 {
-        digits[i * 16 + 8] = 0;
-        return Answer::Refused(Refusal::LogFull);
-    }
-    clear(i, kinds, allowed, finished, steps, digits);
-    clear_buffer(buffers, i, format.n);
-    Answer::Done(Outcome::GaveUp {
-        reader: who,
-        attempts: used,
-    })
+    fail(
+        who,
+        room,
+        used,
+        most,
+        format.n,
+        kinds,
+        allowed,
+        finished,
+        steps,
+        digits,
+        buffers,
+    )
 }
 
 // v2 left to right, the bytes ascending into the buffer, v1 right to left.

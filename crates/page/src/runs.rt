@@ -16,6 +16,17 @@ use protocol::Format;
 use protocol::Refusal;
 use protocol::Writer;
 
+fn ran(p: Progress, ending: Ending, w: Writer) -> Ran
+    ensures { λ r. ⌜ r ≡ record { done = p .done; written = p .written; ending = ending; writer = w } ⌝ }
+{
+    Ran {
+        done: p.done,
+        written: p.written,
+        ending: ending,
+        writer: w,
+    }
+}
+
 // The commands in order, up to the first that is refused.
 fn run_all(
     format: Format,
@@ -76,24 +87,14 @@ fn run_all(
         );
         let v = t.verdict;
         if let Verdict::Stop(why) = v {
-            return Ran {
-                done: p.done,
-                written: p.written,
-                ending: Ending::Refused(why),
-                writer: w,
-            };
+            return ran(p, Ending::Refused(why), w);
         }
         let next = t.progress;
         let after = t.writer;
         p = next;
         w = after;
     }
-    Ran {
-        done: p.done,
-        written: p.written,
-        ending: Ending::Finished,
-        writer: w,
-    }
+    ran(p, Ending::Finished, w)
 }
 
 fn refused_run(why: Refusal, w: Writer) -> Ran

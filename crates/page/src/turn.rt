@@ -1,17 +1,21 @@
 // One command with its entry in the log.
 ghost use mathlib.Core.Path.{_≡_};
-ghost use Prim.Native.Nat.{_≤_, _<_};
+ghost use Prim.Native.Nat.{_+_, _≤_, _<_};
 ghost use lib.ListN.{length};
 ghost use Rattle.protocol.specs.Form.{formOf};
+ghost use Rattle.protocol.specs.Outcome.{entry as entryOf};
+ghost use Rattle.protocol.specs.declared.Outcome.{Outcome};
+ghost use Rattle.page.specs.declared.Answer.the-variants.{Done};
 ghost use Rattle.page.specs.Store.{store, Lists16};
 ghost use Rattle.page.specs.Writing.{Weighed};
-ghost use Rattle.page.specs.Carry.{here, Ready};
-ghost use Rattle.page.specs.Turn.{turnOf, asTurn};
+ghost use Rattle.page.specs.Carry.{Here, here, Ready};
+ghost use Rattle.page.specs.Turn.{turnOf, onAfter, asTurn};
 use crate::Answer;
 use crate::command;
 use crate::decode;
 use crate::decode::Decoded;
 use crate::entry;
+use crate::write::Carried;
 use protocol::Format;
 use protocol::Refusal;
 use protocol::Writer;
@@ -32,6 +36,36 @@ pub(crate) struct Turned {
     pub(crate) verdict: Verdict,
     pub(crate) progress: Progress,
     pub(crate) writer: Writer,
+}
+
+// What a command answered, entered into the log: the run goes on behind it, or stops.
+fn entered(log: &mut [u8], p: Progress, next: usize, c: Carried) -> Turned
+    requires { ⌜ (p .done < 18446744073709551615)
+        × ((o : Outcome) → c .answer ≡ Done o → p .written + length (entryOf o) ≤ length (now log)) ⌝ }
+    ensures { λ r. ⌜ (r .writer ≡ c .writer)
+        × ((h : Here) → asTurn r h (now (log .exit)) (r .verdict) ≡ onAfter p next (now (log .entry)) h (c .answer)) ⌝ }
+{
+    let a = c.answer;
+    let after = c.writer;
+    match a {
+        Answer::Done(o) => {
+            let end = entry::put(log, p.written, o);
+            Turned {
+                verdict: Verdict::Fine,
+                progress: Progress {
+                    at: next,
+                    done: p.done + 1,
+                    written: end,
+                },
+                writer: after,
+            }
+        }
+        Answer::Refused(why) => Turned {
+            verdict: Verdict::Stop(why),
+            progress: p,
+            writer: after,
+        },
+    }
 }
 
 // One command with its entry in the log. A refused one has changed nothing.
@@ -71,7 +105,6 @@ pub(crate) fn turn(
         (now (digits .entry))) (now (buffers .entry))) (now (log .entry)) ⌝ }
 {
     let at = p.at;
-    let written = p.written;
     let Decoded::Is(x, next) = decode::decode(commands, at) else {
         return Turned {
             verdict: Verdict::Stop(Refusal::UnknownCommand),
@@ -79,7 +112,7 @@ pub(crate) fn turn(
             writer: w,
         };
     };
-    let room = log.len() - written;
+    let room = log.len() - p.written;
     let c = command::carry(
         format,
         bases,
@@ -98,25 +131,5 @@ pub(crate) fn turn(
         room,
         x,
     );
-    let a = c.answer;
-    let after = c.writer;
-    match a {
-        Answer::Done(o) => {
-            let end = entry::put(log, written, o);
-            Turned {
-                verdict: Verdict::Fine,
-                progress: Progress {
-                    at: next,
-                    done: p.done + 1,
-                    written: end,
-                },
-                writer: after,
-            }
-        }
-        Answer::Refused(why) => Turned {
-            verdict: Verdict::Stop(why),
-            progress: p,
-            writer: after,
-        },
-    }
+    entered(log, p, next, c)
 }

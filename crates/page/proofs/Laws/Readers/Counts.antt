@@ -15,6 +15,7 @@ use Rattle.page.specs.declared.Answer.the-variants.{Done, Refused}
 use Rattle.page.specs.declared.reader.Counted.{Counted}
 use Rattle.page.specs.Store.{Store}
 use Rattle.page.specs.Reader.{
+  stored,
   Moved,
   moved,
   cleared,
@@ -25,7 +26,7 @@ use Rattle.page.specs.Reader.{
   endCountStore,
   countStore,
 }
-use Rattle.page.proofs.Laws.Readers.Stored.{stored, stored-back, stored-cleared}
+use Rattle.page.proofs.Laws.Readers.Stored.{stored-back, stored-cleared}
 
 -- the two parts as the code lends them
 pub counted-as :

@@ -6,8 +6,8 @@ use native.Mathlib.Omega.{arith}
 use lib.Dec.{lit<}
 use lib.ListN.{getD, set, replicate}
 use lib.Seq.{take-set-le, drop-set-lt, set-set, set-getD}
-use Rattle.page.specs.Store.{Store, store, putRow}
-use Rattle.page.specs.Reader.{cleared, again}
+use Rattle.page.specs.Store.{Store, putRow}
+use Rattle.page.specs.Reader.{cleared, again, stored}
 
 -- a digit stored and put back
 put-back : (l : List ℕ) (p d : ℕ) → getD l p 0 ≡ 0 → set (set l p d) p 0 ≡ l
@@ -20,10 +20,6 @@ put-over w i k d x l h =
       take-set-le (i * w) l (i * w + k) d (omega arith),
       drop-set-lt (i * w + w) l (i * w + k) d (omega arith),
     )
-
--- the store with a digit at the last place of a reader's second copy
-abbrev pub stored : Store → (i d : ℕ) → Store
-stored t i d = store (t .kinds) (t .allowed) (t .finished) (t .steps) (set (t .digits) (i * 16 + 8) d)
 
 pub stored-back : (t : Store) (i d : ℕ) → getD (t .digits) (i * 16 + 8) 0 ≡ 0 → stored (stored t i d) i 0 ≡ t
 stored-back t i d e = rw (put-back (t .digits) (i * 16 + 8) d e)

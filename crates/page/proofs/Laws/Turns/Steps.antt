@@ -15,6 +15,7 @@ use Rattle.protocol.specs.declared.Command.{Command}
 use Rattle.protocol.specs.declared.Outcome.{Outcome}
 use Rattle.protocol.specs.declared.Refusal.{Refusal}
 use Rattle.protocol.specs.declared.Refusal.the-variants.{UnknownCommand, LogFull}
+use Rattle.protocol.specs.declared.Writer.{Writer}
 use Rattle.page.specs.declared.Answer.{Answer}
 use Rattle.page.specs.declared.Answer.the-variants.{Done, Refused}
 use Rattle.page.specs.declared.decode.Decoded.{Decoded}
@@ -51,6 +52,21 @@ pub carry-fits :
 carry-fits F S room h x {a} {h′} {o} e d =
     answer-fits F room h (carry F S (load F (memory (F .readers) h)) x) o (sym (ap (λ (y : After). y .answer) e) ∙ d)
 
+-- the answer's entry
+module _ (p : Progress) (next : ℕ) (log : List ℕ) (h : Here) {a : Answer} where
+  pub entered-refused : {why : Refusal} → a ≡ Refused why → Turn.stops why h log ≡ onAfter p next log h a
+  unfolding onAfter
+  entered-refused w = sym (ap (onAfter p next log h) w)
+
+  pub entered-done :
+      {o : Outcome} {log′ : List ℕ} {end : ℕ} → a ≡ Done o →
+      added log′ end ≡ added (overlay log (p .written) (entry o)) (p .written + length (entry o)) →
+      Turn.goes (record { at = next; done = p .done + 1; written = end }) h log′ ≡ onAfter p next log h a
+  unfolding onAfter
+  entered-done w put =
+      ap (λ (y : Added). Turn.goes (record { at = next; done = p .done + 1; written = y .at }) h (y .log)) put
+      ∙ sym (ap (onAfter p next log h) w)
+
 module _ (F : Form) (S s : List ℕ) (p : Progress) (h : Here) (log : List ℕ) {d : Decoded} where
   pub unknown :
       d ≡ decodeAt s (p .at) → d ≡ Decoded.Unknown → Turn.stops UnknownCommand h log ≡ turnOf F S s p h log
@@ -72,19 +88,10 @@ module _ (F : Form) (S s : List ℕ) (p : Progress) (h : Here) (log : List ℕ) 
           ap (λ (y : After). onAfter p next log (y .here) (y .answer)) k
           ∙ sym (ap (onDecoded F S p h log) (sym e ∙ is))
 
-      pub turn-refused : {why : Refusal} → a ≡ Refused why → Turn.stops why h′ log ≡ turnOf F S s p h log
-      unfolding onAfter
-      turn-refused w = sym (ap (onAfter p next log h′) w) ∙ turned
-
-      pub turn-done :
-          {o : Outcome} {log′ : List ℕ} {end : ℕ} → a ≡ Done o →
-          added log′ end ≡ added (overlay log (p .written) (entry o)) (p .written + length (entry o)) →
-          Turn.goes (record { at = next; done = p .done + 1; written = end }) h′ log′ ≡ turnOf F S s p h log
-      unfolding onAfter
-      turn-done w put =
-          ap (λ (y : Added). Turn.goes (record { at = next; done = p .done + 1; written = y .at }) h′ (y .log)) put
-          ∙ sym (ap (onAfter p next log h′) w)
-          ∙ turned
+      pub turn-entered :
+          {w : Writer} → w ≡ h′ .writer →
+          onAfter p next log (here (h′ .page) w (h′ .store) (h′ .buffers)) a ≡ turnOf F S s p h log
+      turn-entered w = ap (λ (y : Writer). onAfter p next log (here (h′ .page) y (h′ .store) (h′ .buffers)) a) w ∙ turned
 
 -- THE RUN, from what a turn hands back
 

@@ -1,13 +1,7 @@
--- The ways of `endAttemptStore`: the digit that was stored is put back, or cleared with its row.
+-- By the two versions, the attempt is accepted or fails.
 use borrow.Author.Needs.{needs}
 use native.Mathlib.Omega.{arith}
-use Rattle.page.proofs.Laws.Readers.Attempts.{
-  attempt-full,
-  attempt-accepted,
-  attempt-again,
-  attempt-refused,
-  attempt-given-up,
-}
+use Rattle.page.proofs.Laws.Readers.Attempts.{attempt-same, attempt-other}
 use Rattle.page.proofs.reader.end_attempt.Statement.{statement}
 use Rattle.page.proofs.reader.end_attempt.Tie as tie
 
@@ -67,112 +61,43 @@ add-used c =
     let h = rw (← e) at (s .pre .0 .attempts) in
     omega (arith, y .entry .ensures)
 
-mul-digits-2 : tie.Need-mul-digits-2
-mul-digits-2 c = search needs
-
-add-digits-3 : tie.Need-add-digits-3
-add-digits-3 c = search needs
-
-element-write-digits-2 : tie.Need-element-write-digits-2
-element-write-digits-2 c = search needs
+accept-requires : tie.Need-accept-requires
+accept-requires c κs = search needs
 
 returns : tie.Need-returns
 returns c =
-    let y = c .before .before .before .before .before in
+    let t = c .before .before .before .before .before .before in
+    let y = t .before .before .before .before in
     let k = y .before .before in
     let f = k .before .before .before in
     let x = f .before .before .before .before in
     let e = x .index .ensures in
     let s = x .before .before .before .before in
-    rw e
-    (attempt-full _ _ _ _ _ _ _ _ (rw e at (k .version-at2 .ensures)) (rw e at (f .version-at .ensures))
-    (c .before .if1 .taken) (s .pre .0 .free) (c .if2 .taken))
+    attempt-same _ _ _ _ _ _ _ _ (rw e at (k .version-at2 .ensures)) (rw e at (f .version-at .ensures))
+    (s .pre .0 .free) (t .if1 .taken) (rw e at (c .accept .ensures))
 
-clear-requires : tie.Need-clear-requires
-clear-requires c κs = search needs
-
-returns-2 : tie.Need-returns-2
-returns-2 c =
-    let z = c .before .before .before .before .before .before in
-    let y = z .before .before .before .before .before in
-    let k = y .before .before in
-    let f = k .before .before .before in
-    let x = f .before .before .before .before in
-    let e = x .index .ensures in
-    rw e
-    (attempt-accepted _ _ _ _ _ _ _ _ (rw e at (k .version-at2 .ensures)) (rw e at (f .version-at .ensures))
-    (z .before .if1 .taken) _ (z .if2 .left) (rw e at (c .clear .ensures)))
-
-next-attempt-requires : tie.Need-next-attempt-requires
-next-attempt-requires c κs = search needs
-
-returns-3 : tie.Need-returns-3
-returns-3 c =
-    let z = c .before .before .before .before .before .before in
-    let y = z .before .before .before .before .before in
-    let k = y .before .before in
-    let f = k .before .before .before in
-    let x = f .before .before .before .before in
-    let e = x .index .ensures in
-    let u = rw (y .entry .ensures, e) at (z .if3 .taken) in
-    attempt-again _ _ _ _ _ _ _ _ (rw e at (k .version-at2 .ensures)) (rw e at (f .version-at .ensures))
-    (z .before .if1 .left) _ u (rw e at (c .next-attempt .ensures))
-
-mul-digits-3 : tie.Need-mul-digits-3
-mul-digits-3 c = search needs
-
-add-digits-4 : tie.Need-add-digits-4
-add-digits-4 c = search needs
-
-element-write-digits-3 : tie.Need-element-write-digits-3
-element-write-digits-3 c = search needs
-
-returns-4 : tie.Need-returns-4
-returns-4 c =
-    let z = c .before in
-    let y = z .before .before .before .before .before in
-    let k = y .before .before in
-    let f = k .before .before .before in
-    let x = f .before .before .before .before in
-    let e = x .index .ensures in
+fail-requires : tie.Need-fail-requires
+fail-requires c κs =
+    let y = c .before .before .before .before .before .before .before .before .before .before in
+    let x = y .before .before .before .before .before .before .before .before .before in
     let s = x .before .before .before .before in
-    let u = rw (y .entry .ensures, e) at (z .if3 .left) in
-    rw e
-    (attempt-refused _ _ _ _ _ _ _ _ (rw e at (k .version-at2 .ensures)) (rw e at (f .version-at .ensures))
-    (z .before .if1 .left) u (s .pre .0 .free) (c .if4 .taken))
-
-clear-requires-2 : tie.Need-clear-requires-2
-clear-requires-2 c κs = search needs
-
-clear-buffer-requires : tie.Need-clear-buffer-requires
-clear-buffer-requires c κs =
-    let z = c .before .before .before .before .before .before .before .before in
-    let y = z .before .before .before .before .before in
-    let k = y .before .before in
-    let f = k .before .before .before in
-    let x = f .before .before .before .before in
-    let e = x .index .ensures in
-    let s = x .before .before .before .before in
-    rw e (s .pre .0 .reader, s .pre .0 .places .3, s .pre .0 .room)
+    (s .pre .0 .reader, s .pre .0 .places .3, s .pre .0 .room, rw (x .index .ensures) (omega arith))
 
 same-length : tie.Need-same-length
 same-length c = search needs
 
-returns-5 : tie.Need-returns-5
-returns-5 c =
+returns-2 : tie.Need-returns-2
+returns-2 c =
     let b = c .before .before in
-    let g = b .before .before in
-    let w = g .before .before .before .before .before .before in
-    let z = w .before in
-    let y = z .before .before .before .before .before in
+    let z = b .before .before .before .before .before .before .before in
+    let y = z .before .before .before .before in
     let k = y .before .before in
     let f = k .before .before .before in
     let x = f .before .before .before .before in
     let e = x .index .ensures in
-    let u = rw (y .entry .ensures, e) at (z .if3 .left) in
-    rw e
-    (attempt-given-up _ _ _ _ _ _ _ _ (rw e at (k .version-at2 .ensures)) (rw e at (f .version-at .ensures))
-    (z .before .if1 .left) u _ _ (w .if4 .left) (rw e at (g .clear2 .ensures)) (rw e at (b .clear-buffer .ensures)))
+    let s = x .before .before .before .before in
+    attempt-other _ _ _ _ _ _ _ _ (rw e at (k .version-at2 .ensures)) (rw e at (f .version-at .ensures))
+    (s .pre .0 .free) (z .if1 .left) (rw (y .entry .ensures, e) at (b .fail .ensures))
 
 pub end-attempt-spec : {M : Type 1} → statement M
 end-attempt-spec =
@@ -192,19 +117,8 @@ end-attempt-spec =
     entry-requires
     element-copy-out-used
     add-used
-    mul-digits-2
-    add-digits-3
-    element-write-digits-2
+    accept-requires
     returns
-    clear-requires
-    returns-2
-    next-attempt-requires
-    returns-3
-    mul-digits-3
-    add-digits-4
-    element-write-digits-3
-    returns-4
-    clear-requires-2
-    clear-buffer-requires
+    fail-requires
     same-length
-    returns-5)
+    returns-2)

@@ -71,14 +71,14 @@ mul-buffers c =
     let x = c .before .before .before .before in
     let s = x .before .before .before .before in
     let h = rw (← x .index .ensures) at (s .pre .0 .room) in
-    omega (arith, c .before, s .good)
+    omega (arith, h, s .good)
 
 add-buffers-3 : tie.Need-add-buffers-3
 add-buffers-3 c =
     let x = c .before .before .before .before in
     let s = x .before .before .before .before in
     let h = rw (← x .index .ensures) at (s .pre .0 .room) in
-    omega (arith, c .before, s .good)
+    omega (arith, h, c .before .if2 .taken, s .good)
 
 slice-write-buffers : tie.Need-slice-write-buffers
 slice-write-buffers c =

@@ -64,49 +64,56 @@ turn-requires c κs =
 enum-known-v : tie.Need-enum-known-v Inv-loop μ-loop
 enum-known-v c = search needs
 
+ran-requires : tie.Need-ran-requires Inv-loop μ-loop
+ran-requires c κs = search needs
+
 same-length : tie.Need-same-length Inv-loop μ-loop
 same-length c =
-    let t = c .before .before .before .before .before .before .before .before .before in
+    let v = c .before .before in
+    let t = v .before .before .before .before .before .before .before .before in
     let i = begin t in
     let l = i .before .before in
     let s = enter l in
     let k =
     stops (s .pre .0) (s .pre .1) (l .loop .inv) (i .if1 .taken)
-    (turn-stops (t .turn .result) (t .turn .ensures) (c .before .v .given .1)) in
+    (turn-stops (t .turn .result) (t .turn .ensures) (v .v .given .1)) in
     ap (λ (x : Here). length (x .page)) (k .0) ∙ length-page-here (s .pre .0) (s .pre .1) (l .loop .inv)
 
 same-length-2 : tie.Need-same-length-2 Inv-loop μ-loop
 same-length-2 c =
-    let t = c .before .before .before .before .before .before .before .before .before in
+    let v = c .before .before in
+    let t = v .before .before .before .before .before .before .before .before in
     let i = begin t in
     let l = i .before .before in
     let s = enter l in
     let k =
     stops (s .pre .0) (s .pre .1) (l .loop .inv) (i .if1 .taken)
-    (turn-stops (t .turn .result) (t .turn .ensures) (c .before .v .given .1)) in
+    (turn-stops (t .turn .result) (t .turn .ensures) (v .v .given .1)) in
     ap (λ (x : Here). length (x .buffers)) (k .0) ∙ length-buffers-here (s .pre .0) (s .pre .1) (l .loop .inv)
 
 same-length-3 : tie.Need-same-length-3 Inv-loop μ-loop
 same-length-3 c =
-    let t = c .before .before .before .before .before .before .before .before .before in
+    let v = c .before .before in
+    let t = v .before .before .before .before .before .before .before .before in
     let i = begin t in
     let l = i .before .before in
     let s = enter l in
     let k =
     stops (s .pre .0) (s .pre .1) (l .loop .inv) (i .if1 .taken)
-    (turn-stops (t .turn .result) (t .turn .ensures) (c .before .v .given .1)) in
+    (turn-stops (t .turn .result) (t .turn .ensures) (v .v .given .1)) in
     ap length (k .1) ∙ length-log-here (s .pre .0) (s .pre .1) (l .loop .inv)
 
 returns : tie.Need-returns Inv-loop μ-loop
 returns c =
-    let t = c .before .before .before .before .before .before .before .before .before in
+    let v = c .before .before in
+    let t = v .before .before .before .before .before .before .before .before in
     let i = begin t in
     let l = i .before .before in
     let s = enter l in
     let k =
     stops (s .pre .0) (s .pre .1) (l .loop .inv) (i .if1 .taken)
-    (turn-stops (t .turn .result) (t .turn .ensures) (c .before .v .given .1)) in
-    run-stops k
+    (turn-stops (t .turn .result) (t .turn .ensures) (v .v .given .1)) in
+    rw (c .ran .ensures) (run-stops k)
 
 enum-told : tie.Need-enum-told Inv-loop μ-loop
 enum-told c = search needs
@@ -133,29 +140,32 @@ loop-again c =
     (turn-goes (t .turn .result) (t .turn .ensures) (c .before .before .enum-told .given .1)) in
     k .0
 
+ran-requires-2 : tie.Need-ran-requires-2 Inv-loop μ-loop
+ran-requires-2 c κs = search needs
+
 same-length-4 : tie.Need-same-length-4 Inv-loop μ-loop
 same-length-4 c =
-    let l = c .before .before in
+    let l = c .before .before .before in
     let s = enter l in
     length-page-here (s .pre .0) (s .pre .1) (l .loop .inv)
 
 same-length-5 : tie.Need-same-length-5 Inv-loop μ-loop
 same-length-5 c =
-    let l = c .before .before in
+    let l = c .before .before .before in
     let s = enter l in
     length-buffers-here (s .pre .0) (s .pre .1) (l .loop .inv)
 
 same-length-6 : tie.Need-same-length-6 Inv-loop μ-loop
 same-length-6 c =
-    let l = c .before .before in
+    let l = c .before .before .before in
     let s = enter l in
     length-log-here (s .pre .0) (s .pre .1) (l .loop .inv)
 
 returns-2 : tie.Need-returns-2 Inv-loop μ-loop
 returns-2 c =
-    let l = c .before .before in
+    let l = c .before .before .before in
     let s = enter l in
-    sym (over (s .pre .0) (s .pre .1) (l .loop .inv) (c .if1 .left))
+    rw (c .ran2 .ensures) (sym (over (s .pre .0) (s .pre .1) (l .loop .inv) (c .before .if1 .left)))
 
 pub run-all-spec : {M : Type 1} → statement M
 run-all-spec =
@@ -166,6 +176,7 @@ run-all-spec =
     loop-holds
     turn-requires
     enum-known-v
+    ran-requires
     same-length
     same-length-2
     same-length-3
@@ -173,6 +184,7 @@ run-all-spec =
     enum-told
     loop-less
     loop-again
+    ran-requires-2
     same-length-4
     same-length-5
     same-length-6
