@@ -1,0 +1,20 @@
+-- What the proofs by hand share: loans, and for each function that is called what it asks and what it gives.
+pub mod After
+pub mod Elem
+pub mod Made
+pub mod Kept
+pub mod Rooms
+pub mod Both
+pub mod Tests
+pub mod Clears
+pub mod Finishes
+pub mod Shared
+pub mod Few
+pub mod Gathers
+pub mod Scatters
+pub mod Core
+pub mod Ends
+pub mod Places
+pub mod CancelCore
+pub mod Empties
+pub mod Element
