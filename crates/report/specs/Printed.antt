@@ -1,4 +1,5 @@
--- What the program prints for an input, whole: one run of all commands from the opened page, over a log that never fills.
+-- What the program prints for an input, whole: one run of all commands from the opened page, over a log that never
+-- fills.
 use mathlib.Core.List.{List, _++_, map}
 use mathlib.Core.Bool.{Bool}
 use Prim.Native.Nat.{ℕ, _*_}

@@ -1,5 +1,5 @@
--- The program's turns: each carries out one command, in a run of its own over a log of ten bytes, and tells its line. The
--- last one tells how the run ended.
+-- The program's turns: each carries out one command, in a run of its own over a log of ten bytes, and tells its line.
+-- The last one tells how the run ended.
 use mathlib.Core.List.{List, [], _++_}
 use mathlib.Core.Bool.{Bool, true, false, _||_, cond}
 use Prim.Native.Nat.{ℕ, zero, suc, _+_, _*_, _-_}

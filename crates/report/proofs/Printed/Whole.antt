@@ -79,7 +79,12 @@ module _ (more : Bool) (s : List ℕ) (h : Here) (a : Accepted more s (headerIn 
   printed-is = ap (listing (F .n)) ran
 
   pub no-twelve : endingNumber (run F S (stored F σ) (record { given = given; log = replicate room 0 }) .ending) < 12
-  no-twelve = omega (arith, ap (λ (y : Ran). endingNumber (y .ending)) ran, never-full F S (length given) room σ given (le-refl _) (le-refl _))
+  no-twelve =
+      omega (
+        arith,
+        ap (λ (y : Ran). endingNumber (y .ending)) ran,
+        never-full F S (length given) room σ given (le-refl _) (le-refl _),
+      )
 
   module _
       (lists : Lists16 (h .store))
@@ -107,11 +112,13 @@ module _ (more : Bool) (s : List ℕ) (h : Here) (a : Accepted more s (headerIn 
           )
 
       started : allTurns s h (header (headerIn s))
-          ≡ turns (suc (length s)) s (header (headerIn s)) (record { at = headerIn s .commands; done = 0 }) (holding F σ h)
+          ≡ turns (suc (length s)) s (header (headerIn s)) (record { at = headerIn s .commands; done = 0 })
+          (holding F σ h)
       unfolding startOf
       started =
           ap
-          (λ (z : Here). turns (suc (length s)) s (header (headerIn s)) (record { at = headerIn s .commands; done = 0 }) z)
+          (λ (z : Here).
+          turns (suc (length s)) s (header (headerIn s)) (record { at = headerIn s .commands; done = 0 }) z)
           open-holds
 
       pub accepted-whole : allTurns s h (header (headerIn s)) ≡ printedOf s (header (headerIn s))
@@ -135,7 +142,8 @@ abbrev Whole : List ℕ → Here → Parsed → Type 0
 Whole s h x =
     length (h .page) ≡ spaceOf x .page → length (h .buffers) ≡ spaceOf x .buffers → allTurns s h x ≡ printedOf s x
 
-by-parsed : (more : Bool) (s : List ℕ) (h : Here) → Lists16 (h .store) → (x : Parsed) → parse more s ≡ x → Whole s h x
+by-parsed : (more : Bool) (s : List ℕ) (h : Here) → Lists16 (h .store) → (x : Parsed) → parse more s ≡ x
+    → Whole s h x
 unfolding spaceOf
 by-parsed more s h lists (refused why) e = λ long wide. refused-whole s h why
 by-parsed more s h lists (header x) e =

@@ -84,7 +84,8 @@ module _ (F : Form) (r : ℕ) (low : r < F .readers) where
   attempt-ends : (a f : ℕ) (b ds : List ℕ) → Gathers (F .readers) (endAttempt F r a f b ds)
   unfolding endAttempt
   attempt-ends a f b ds =
-      by-cond (Gathers (F .readers)) (eqb (value (versionBases F) (copyB (F .q) ds)) (value (versionBases F) (copyA (F .q) ds)))
+      by-cond (Gathers (F .readers))
+      (eqb (value (versionBases F) (copyB (F .q) ds)) (value (versionBases F) (copyA (F .q) ds)))
       (λ e. low)
       (λ e. by-cond (Gathers (F .readers)) (ltb (suc f) a) (λ e. tt) (λ e. low))
 
@@ -96,7 +97,8 @@ module _ (F : Form) (r : ℕ) (low : r < F .readers) where
       (λ e. count-ends b (copyA (m F) (d ∷ ds)) (copyB (m F) (d ∷ ds)) _)
   gathers d (ofRecord a f s ds) b =
       by-cond (Gathers (F .readers)) (leb (F .q) s && ltb s (F .q + F .n)) (λ e. tt)
-      (λ e. by-cond (Gathers (F .readers)) (ltb (suc s) (recordSteps F)) (λ e. tt) (λ e. attempt-ends a f b (d ∷ ds)))
+      (λ e.
+      by-cond (Gathers (F .readers)) (ltb (suc s) (recordSteps F)) (λ e. tt) (λ e. attempt-ends a f b (d ∷ ds)))
 
   onward : (σ : State) (g : Gathered) → Gathers (F .readers) g → Answers (F .readers) (onGathered σ r g)
   unfolding onGathered
@@ -115,12 +117,14 @@ module _ (F : Form) (S : List ℕ) (σ : State) where
   carried-within (WriteCount c) =
       by-cond (Answers (F .readers)) (busyWriting (σ .writing)) (λ e. omega arith)
       (λ e. by-cond (Answers (F .readers)) (leb (product (F .bases)) (c .0)) (λ e. omega arith)
-      (λ e. by-cond (Answers (F .readers)) (ltb (c .0) (value (F .bases) (look (σ .page) (c2 F)))) (λ e. omega arith) (λ e. tt)))
+      (λ e. by-cond (Answers (F .readers)) (ltb (c .0) (value (F .bases) (look (σ .page) (c2 F)))) (λ e. omega arith)
+      (λ e. tt)))
   carried-within (WriteRecord i) =
       by-cond (Answers (F .readers)) (not (inRecords F S i)) (λ e. omega arith)
       (λ e. by-cond (Answers (F .readers)) (busyWriting (σ .writing)) (λ e. omega arith)
       (λ e. by-cond (Answers (F .readers))
-      (leb (product (versionBases F)) (suc (value (versionBases F) (look (σ .page) (v1 F))))) (λ e. omega arith) (λ e. tt)))
+      (leb (product (versionBases F)) (suc (value (versionBases F) (look (σ .page) (v1 F))))) (λ e. omega arith)
+      (λ e. tt)))
   carried-within WriterStep = writes (σ .writing)
   carried-within (BeginCountRead r) =
       by-cond (Answers (F .readers)) (leb (F .readers) r) (λ e. omega arith)
@@ -131,7 +135,8 @@ module _ (F : Form) (S : List ℕ) (σ : State) where
   carried-within (ReaderStep r) =
       by-cond (Answers (F .readers)) (leb (F .readers) r) (λ e. omega arith)
       (λ e. onward F r (leb-false _ _ e) σ _
-      (gathers F r (leb-false _ _ e) (getD (σ .page) (nextPosition F (readingOf σ r)) 0) (readingOf σ r) (bufferOf σ r)))
+      (gathers F r (leb-false _ _ e) (getD (σ .page) (nextPosition F (readingOf σ r)) 0) (readingOf σ r)
+      (bufferOf σ r)))
   carried-within (Cancel r) =
       by-cond (Answers (F .readers)) (leb (F .readers) r) (λ e. omega arith)
       (λ e. by-cond (Answers (F .readers)) (busyReading (readingOf σ r)) (λ e. tt) (λ e. omega arith))

@@ -74,7 +74,8 @@ module _ (F : Form) (S : List ℕ) (k : ℕ) (h : Here) (s : List ℕ) where
       let size : length (concat (x .state .buffers)) ≡ F .readers * F .n =
       length-concat (F .n) (x .state .buffers) (after .sized .each) ∙ ap (λ k. k * F .n) (after .sized .buffers) in (
         rw (take-append-seam (entry (x .outcome)) (drop (length (entry (x .outcome))) (replicate 10 0)))
-            (fits-outcome (F .n) (F .readers) (concat (x .state .buffers)) (x .outcome) (omega (arith, r .bytes)) size within),
+            (fits-outcome (F .n) (F .readers) (concat (x .state .buffers)) (x .outcome) (omega (arith, r .bytes)) size
+            within),
         omega (arith, length-append (entry (x .outcome)) (drop (length (entry (x .outcome))) (replicate 10 0))),
       )
 

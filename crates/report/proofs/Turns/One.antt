@@ -90,7 +90,8 @@ module _ (F : Form) (S : List ℕ) (σ : State) where
 
     by-answer : (a : Answer) → carry F S σ x ≡ a → One s
     by-answer (refused why) c =
-        stops why (rw c at (carried-within F S σ x)) (full-command F S 10 σ _ x [] alone ∙ ap (answered (full F S) 10 σ []) c ∙ stopped 10 [] why)
+        stops why (rw c at (carried-within F S σ x))
+        (full-command F S 10 σ _ x [] alone ∙ ap (answered (full F S) 10 σ []) c ∙ stopped 10 [] why)
         (λ room. full-command F S room σ s x t e ∙ ap (answered (full F S) room σ t) c ∙ stopped room t why)
     by-answer (done σ′ o) c =
         goes x σ′ o c

@@ -32,7 +32,8 @@ abbrev pub logWith : Outcome → List ℕ
 logWith o = entry o ++ drop (length (entry o)) (replicate 10 0)
 
 abbrev pub ranRefused : Refusal → Here → RanHere
-ranRefused why h = ranHere (record { done = 0; written = 0; ending = Refused why; writer = h .writer }) h (replicate 10 0)
+ranRefused why h =
+    ranHere (record { done = 0; written = 0; ending = Refused why; writer = h .writer }) h (replicate 10 0)
 
 abbrev pub ranDone : Form → Here → State → Outcome → RanHere
 ranDone F h σ o =
@@ -109,7 +110,10 @@ module _ (F : Form) (S : List ℕ) (k : ℕ) (h : Here) (s : List ℕ) where
   by-start : 0 < length s → called .ran .ending ≡ Finished → (e : Ending) → runStart F S k h ≡ e → Finishes
   by-start some f (Refused why) e =
       let z : Refused why ≡ Finished =
-      ap (λ (y : RanHere). y .ran .ending) (sym (run-refused-at F S k h (take (nextWidth s) s) (replicate 10 0) why e)) ∙ f in
+      ap (λ (y : RanHere). y .ran .ending)
+      (sym (run-refused-at F S k h (take (nextWidth s) s) (replicate 10 0) why e))
+      ∙ f
+      in
       absurd (let z : _≡_ {A = ℕ} 0 1 = cc in omega arith)
   by-start some f Finished e =
       let (same, ready, agree) = run-begins F S k h (take (nextWidth s) s) (replicate 10 0) e in

@@ -11,11 +11,13 @@ use Rattle.runlist.proofs.print.Statement.{statement}
 use Rattle.runlist.proofs.print.Tie as tie
 
 abbrev Inv-loop : tie.InvT-loop
-Inv-loop input more page₀ buffers₀ kinds₀ allowed₀ finished₀ steps₀ digits₀ line₀ p₀ w₀ last₀ page buffers kinds allowed finished steps digits line p w last =
+Inv-loop input more page₀ buffers₀ kinds₀ allowed₀ finished₀ steps₀ digits₀ line₀ p₀ w₀ last₀
+    page buffers kinds allowed finished steps digits line p w last =
     (length page ≡ length page₀) × (length buffers ≡ length buffers₀)
 
 abbrev μ-loop : tie.MeasureT-loop
-μ-loop input more page₀ buffers₀ kinds₀ allowed₀ finished₀ steps₀ digits₀ line₀ p₀ w₀ last₀ page buffers kinds allowed finished steps digits line p w last =
+μ-loop input more page₀ buffers₀ kinds₀ allowed₀ finished₀ steps₀ digits₀ line₀ p₀ w₀ last₀
+    page buffers kinds allowed finished steps digits line p w last =
     cond last 0 (suc (length input - p .at))
 
 no-writer-requires : tie.Need-no-writer-requires Inv-loop μ-loop
@@ -44,7 +46,9 @@ abbrev in-loop : tie.After-next Inv-loop μ-loop → tie.In-loop Inv-loop μ-loo
 in-loop c = c .before .before .before .before .before .before .before .before .before
 
 abbrev start-of : tie.At-loop Inv-loop μ-loop → tie.Start Inv-loop μ-loop
-start-of c = c .before .before .before .before .before .before .before .before .before .before .before .before .before .before .before .before .before .before .before
+start-of c =
+    c .before .before .before .before .before .before .before .before .before .before .before .before .before .before
+    .before .before .before .before .before
 
 same-length : tie.Need-same-length Inv-loop μ-loop
 same-length c =

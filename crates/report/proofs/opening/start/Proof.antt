@@ -59,7 +59,8 @@ known c = c .before .before .before .before
 add-to : tie.Need-add-to
 add-to c =
     let t = taken-here (known c) in
-    record { fits = omega (arith, ap (λ h. h .first) (t .is-found), ap (λ h. h .format .n) (t .is-found), t .allowed .first-ends) }
+    let f = t .is-found in
+    record { fits = omega (arith, ap (λ h. h .first) f, ap (λ h. h .format .n) f, t .allowed .first-ends) }
 
 few : (c : tie.After-struct-known) → known c .p .given .0 .0 .m ≤ length (c .before .bases .result)
 few c =
