@@ -6,6 +6,7 @@ use radix::Version;
 
 // The numbers of a page, document 01's form, but for its count bases, which are lent as a slice: m is how many
 // they are.
+#[repr(C)]
 pub struct Format {
     pub q: usize,
     pub base: u16,
@@ -14,6 +15,7 @@ pub struct Format {
 }
 
 // The writer's state, document 01's hand. Kind 0: nothing pending; 1: a count; 2: a record.
+#[repr(C)]
 pub struct Writer {
     pub count: Count,
     pub index: usize,
@@ -23,6 +25,7 @@ pub struct Writer {
 }
 
 // A reader's state, document 01's station. Kind 0: idle; 1: a count read; 2: a record read.
+#[repr(C)]
 pub struct Reader {
     pub kind: u8,
     pub allowed: u8,

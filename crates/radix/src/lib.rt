@@ -7,9 +7,11 @@ mod mixed;
 pub mod versions;
 
 // A count, document 01's count: what the boards show.
+#[repr(C)]
 pub struct Count(pub u64);
 
 // A version of a record, document 01's version.
+#[repr(C)]
 pub struct Version(pub u32);
 
 // The number of a write among the writes of its sort, document 01's place of a posting in the run: from 1;

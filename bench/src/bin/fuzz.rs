@@ -1,0 +1,499 @@
+//! The archive against the plain implementation, on random and damaged calls.
+//!
+//!     cargo run --release --features archive --bin fuzz -- CALLS [SEED [CASE]]
+//!
+//! A case is a page with a row of calls, each from what the one before left: mostly schedules that go on, with damage to a
+//! byte, a field or a length now and then, and some cases of nothing but garbage. Every call goes to both, and everything
+//! that was lent is compared: format, bases, page, writer, readers, buffers, records, commands, log, and the answer. (Of the
+//! readers' states all fields are compared; the five bytes of padding have no contents.) CASE replays that one alone.
+//! Exit status 1: some call differed.
+use std::fmt;
+
+use lagumtay_bench::ffi;
+use lagumtay_bench::owned::Owned;
+use lagumtay_bench::plain::{self, number, Answer, Format, Reader, Writer};
+use lagumtay_bench::random::Random;
+
+const MOST_SHOWN: u64 = 10;
+
+#[derive(Clone, Copy, Debug, Default, PartialEq)]
+enum Function {
+    Open,
+    #[default]
+    Run,
+    Cancel,
+}
+
+/// One call with all that it is lent.
+#[derive(Clone, Default, PartialEq)]
+struct Call {
+    function: Function,
+    lent: Owned,
+    records: Vec<u8>,
+    commands: Vec<u8>,
+    log: Vec<u8>,
+    count: u64,
+    record: Vec<u8>,
+    who: u8,
+}
+
+impl Call {
+    fn plain(&mut self) -> (Answer, u8) {
+        let (format, bases, memory) = self.lent.lend();
+        match self.function {
+            Function::Open => (Answer::default(), number(plain::open(format, bases, memory, self.count, &self.record))),
+            Function::Run => {
+                let (answer, ending) = plain::run(format, bases, memory, &self.records, &self.commands, &mut self.log);
+                (answer, number(ending))
+            }
+            Function::Cancel => {
+                (Answer::default(), number(plain::cancel(format, bases, memory, &self.records, self.who)))
+            }
+        }
+    }
+
+    fn archive(&mut self) -> (Answer, u8) {
+        let (format, bases, memory) = self.lent.lend();
+        match self.function {
+            Function::Open => (Answer::default(), ffi::open(format, bases, memory, self.count, &self.record)),
+            Function::Run => ffi::run(format, bases, memory, &self.records, &self.commands, &mut self.log),
+            Function::Cancel => (Answer::default(), ffi::cancel(format, bases, memory, &self.records, self.who)),
+        }
+    }
+}
+
+impl fmt::Display for Call {
+    fn fmt(&self, f: &mut fmt::Formatter) -> fmt::Result {
+        let Call { function, lent, records, commands, log, count, record, who } = self;
+        writeln!(f, "  {function:?} {:?}, bases {:?}", lent.format, lent.bases)?;
+        writeln!(f, "  page {:02x?}\n  {:?}", lent.page, lent.writer)?;
+        lent.readers.iter().try_for_each(|reader| writeln!(f, "  {reader:?}"))?;
+        writeln!(f, "  buffers {:02x?}\n  records {records:02x?}", lent.buffers)?;
+        match function {
+            Function::Open => writeln!(f, "  count {count}, record {record:02x?}"),
+            Function::Run => writeln!(f, "  commands {commands:02x?}\n  log {log:02x?}"),
+            Function::Cancel => writeln!(f, "  who {who}"),
+        }
+    }
+}
+
+#[derive(Default)]
+struct Totals {
+    calls: u64,
+    /// by document 01's number; past 12 is none
+    endings: [u64; 14],
+    functions: [u64; 3],
+    commands: u64,
+    log_bytes: u64,
+    differed: u64,
+}
+
+/// Where a case stands.
+struct Case<'a> {
+    random: Random,
+    call: Call,
+    /// the last count that was announced, to choose the next by
+    count: u64,
+    name: String,
+    verbose: bool,
+    totals: &'a mut Totals,
+}
+
+impl Case<'_> {
+    /// Hand the call to both and compare. Gives the ending, or nothing if they differ.
+    fn compare(&mut self) -> Option<u8> {
+        let before = self.call.clone();
+        let mut theirs = self.call.clone();
+        let (answer, ending) = self.call.plain();
+        let (their_answer, their_ending) = theirs.archive();
+        self.totals.calls += 1;
+        self.totals.functions[before.function as usize] += 1;
+        self.totals.endings[usize::from(ending).min(13)] += 1;
+        self.totals.commands += answer.done as u64;
+        self.totals.log_bytes += answer.written as u64;
+        let same = (answer, ending) == (their_answer, their_ending) && self.call == theirs;
+        if self.verbose {
+            println!("{before}  ends with {ending} {answer:?}\n");
+        }
+        if same {
+            return Some(ending);
+        }
+        self.totals.differed += 1;
+        if self.totals.differed <= MOST_SHOWN {
+            println!("{}: plain {ending} {answer:?}, archive {their_ending} {their_answer:?}", self.name);
+            println!("before\n{before}plain leaves\n{}archive leaves\n{theirs}", self.call);
+        }
+        None
+    }
+
+    /// A page that is opened and used; the calls go on until one differs.
+    fn page(&mut self) {
+        let Case { random, call, .. } = self;
+        call.lent = some_form(random);
+        // An opening does not care what was there.
+        call.lent.page = random.bytes(call.lent.page.len());
+        call.lent.buffers = random.bytes(call.lent.buffers.len());
+        call.lent.writer = wild_writer(random, &call.lent);
+        let wild = wild_reader(random, &call.lent);
+        call.lent.readers.fill(wild);
+        let lent_records = random.of(&[0, 1, 3, 3, 5, 300]);
+        call.records = random.bytes(lent_records * call.lent.format.n);
+        loop {
+            self.opening();
+            match self.compare() {
+                None => return,
+                Some(0) => break,
+                Some(_) => {}
+            }
+        }
+        for _ in 0..self.random.between(1, 60) {
+            match self.random.below(40) {
+                0 => self.opening(),
+                1..=4 => {
+                    self.call.function = Function::Cancel;
+                    self.call.who = self.some_reader();
+                }
+                _ => self.schedule(),
+            }
+            let whole = self.call.clone();
+            if self.random.one_in(6) {
+                self.damage();
+            }
+            match self.compare() {
+                None => return,
+                // What was damaged too much is put back; other damage stays and is worked on.
+                Some(1..=3) => self.call = whole,
+                // Of records no opening tells whether they are.
+                Some(_) if self.call.function == Function::Open => self.call.records = whole.records,
+                Some(_) => {}
+            }
+        }
+    }
+
+    fn opening(&mut self) {
+        self.call.function = Function::Open;
+        self.call.count = match self.random.below(7) {
+            0 => self.random.next_u64(),
+            1 => self.random.below(300) as u64,
+            2 => edge_count(&mut self.random, &self.call.lent),
+            _ => self.random.below(2) as u64,
+        };
+        self.count = self.call.count;
+        self.call.record = self.random.bytes(self.call.lent.format.n);
+    }
+
+    /// A reader that is there; now and then one that is not.
+    fn some_reader(&mut self) -> u8 {
+        match self.random.below(60) {
+            0 => self.random.byte(),
+            1 => self.call.lent.format.readers as u8,
+            _ => self.random.below(self.call.lent.format.readers) as u8,
+        }
+    }
+
+    /// A run of commands that mostly can be carried out: a page that follows tells.
+    fn schedule(&mut self) {
+        self.call.function = Function::Run;
+        self.call.commands.clear();
+        let mut follower = self.call.lent.clone();
+        for _ in 0..self.random.between(1, 12) {
+            let writes = self.random.one_in(3);
+            let who = self.some_reader();
+            let n = follower.format.n;
+            let steps = self.random.of(&[1, 1, 2, 5, 9, n, 2 * n + 8]);
+            for _ in 0..steps {
+                let command = if writes {
+                    self.writer_command(&follower.writer)
+                } else {
+                    self.reader_command(who, follower.readers.get(usize::from(who)))
+                };
+                let (format, bases, memory) = follower.lend();
+                let (_, ending) = plain::run(format, bases, memory, &self.call.records, &command, &mut [0; 10]);
+                // A run ends with its first refused command: few are let through.
+                if ending.is_ok() || self.random.one_in(60) {
+                    self.call.commands.extend_from_slice(&command);
+                }
+            }
+        }
+        let room = if self.random.one_in(8) { self.random.below(30) } else { 8 * self.call.commands.len() };
+        self.call.log = self.random.bytes(room.min(400));
+    }
+
+    fn writer_command(&mut self, writer: &Writer) -> Vec<u8> {
+        // A step if a write is pending, seldom one if none is, and seldom a second write.
+        if (writer.kind == 0) == self.random.one_in(50) {
+            return vec![3];
+        }
+        if self.random.one_in(2) {
+            let lent_records = self.call.records.len() / self.call.lent.format.n;
+            let index = if self.random.one_in(30) { 0 } else { self.random.below(lent_records + 1) };
+            return vec![2, (index >> 8) as u8, index as u8];
+        }
+        let count = match self.random.below(40) {
+            0 => self.random.next_u64(),
+            1 => self.count.wrapping_sub(1),
+            2 => edge_count(&mut self.random, &self.call.lent),
+            3..=6 => self.count.saturating_add(self.random.next_u64() >> self.random.between(8, 63)),
+            _ => self.count.saturating_add(self.random.below(3) as u64),
+        };
+        self.count = count.min(self.count.saturating_add(1 << 20));
+        let mut command = vec![1];
+        command.extend_from_slice(&count.to_be_bytes());
+        command
+    }
+
+    fn reader_command(&mut self, who: u8, reader: Option<&Reader>) -> Vec<u8> {
+        let idle = reader.is_none_or(|reader| reader.kind == 0);
+        match self.random.below(60) {
+            0 => vec![7, who],
+            1 => vec![6, who],
+            _ if !idle => vec![6, who],
+            2 => vec![5, who, self.random.byte()],
+            3..=30 => vec![5, who, self.random.of(&[1, 1, 2, 3, 255])],
+            _ => vec![4, who],
+        }
+    }
+
+    /// One thing that is lent is changed.
+    fn damage(&mut self) {
+        let Case { random, call, .. } = self;
+        let lent = &mut call.lent;
+        match random.below(15) {
+            0..=2 => change_byte(random, &mut lent.page),
+            3 => change_byte(random, &mut lent.buffers),
+            4 | 5 => change_byte(random, &mut call.commands),
+            6 => call.commands.truncate(random.below(call.commands.len() + 1)),
+            7 => {
+                let wild = wild_writer(random, lent);
+                match random.below(5) {
+                    0 => lent.writer.count = wild.count,
+                    1 => lent.writer.index = wild.index,
+                    2 => lent.writer.steps = wild.steps,
+                    3 => lent.writer.version = wild.version,
+                    _ => lent.writer.kind = wild.kind,
+                }
+            }
+            8 => lent.writer = wild_writer(random, lent),
+            9 | 10 => {
+                let wild = wild_reader(random, lent);
+                let at = random.below(lent.readers.len());
+                let reader = &mut lent.readers[at];
+                match random.below(6) {
+                    0 => reader.kind = wild.kind,
+                    1 => reader.allowed = wild.allowed,
+                    2 => reader.finished = wild.finished,
+                    3 => reader.steps = wild.steps,
+                    4 => *reader = wild,
+                    _ => change_byte(random, &mut reader.digits),
+                }
+            }
+            11 => match random.below(6) {
+                0 => change_length(random, &mut lent.page),
+                1 => change_length(random, &mut lent.readers),
+                2 => change_length(random, &mut lent.buffers),
+                3 => change_length(random, &mut call.records),
+                4 => change_length(random, &mut call.record),
+                _ => change_length(random, &mut lent.bases),
+            },
+            12 => wild_number(random, &mut lent.format),
+            13 => {
+                let at = random.below(lent.bases.len());
+                lent.bases[at] = random.of(&[0, 1, 2, 3, 10, 255, 256, 257, 0x100a, u16::MAX]);
+            }
+            _ => call.records.truncate(random.below(call.records.len() + 1)),
+        }
+    }
+
+    /// A call of nothing but garbage, of which the form is good every other time.
+    fn garbage(&mut self) {
+        let Case { random, call, .. } = self;
+        call.lent = some_form(random);
+        if random.one_in(2) {
+            wild_number(random, &mut call.lent.format);
+        }
+        if random.one_in(2) {
+            call.lent.page = random.bytes(call.lent.page.len());
+        } else {
+            call.lent.page = random_bytes(random, 40);
+            call.lent.buffers = random_bytes(random, 600);
+            call.lent.readers = vec![Reader::default(); random.of(&[0, 1, 2, 16, 17])];
+        }
+        call.lent.writer = wild_writer(random, &call.lent);
+        for i in 0..call.lent.readers.len() {
+            if random.one_in(2) {
+                call.lent.readers[i] = wild_reader(random, &call.lent);
+            }
+        }
+        call.records = random_bytes(random, 40);
+        call.commands = random_bytes(random, 40);
+        for byte in &mut call.commands {
+            if random.one_in(2) {
+                *byte %= 9;
+            }
+        }
+        call.log = random_bytes(random, 40);
+        call.record = random_bytes(random, 8);
+        call.count = random.next_u64();
+        call.who = random.byte();
+        call.function = random.of(&[Function::Open, Function::Run, Function::Run, Function::Cancel]);
+        self.compare();
+    }
+}
+
+/// A good format, mostly with small numbers, so that all its corners are reached.
+fn some_form(random: &mut Random) -> Owned {
+    let m = random.between(1, 8);
+    let base = |random: &mut Random| random.of(&[2, 2, 3, 7, 10, 24, 60, 255, 256]);
+    let mut bases: Vec<u16> = (0..m).map(|_| base(random)).collect();
+    if random.one_in(8) {
+        bases = vec![256; 8];
+    }
+    let format = Format {
+        q: random.between(1, 4),
+        base: base(random),
+        n: random.of(&[1, 1, 2, 2, 3, 5, 8, 17, 64, 255, 256]),
+        readers: random.of(&[1, 1, 2, 2, 3, 5, 15, 16]),
+    };
+    Owned::blank(format, &bases)
+}
+
+/// One number of the format becomes another, mostly out of its range.
+fn wild_number(random: &mut Random, format: &mut Format) {
+    let wild = random.of(&[0, 1, 2, 4, 5, 16, 17, 256, 257, 1 << 16, 1 << 32, usize::MAX / 2 + 1, usize::MAX]);
+    match random.below(4) {
+        0 => format.q = wild,
+        1 => format.base = random.of(&[0, 1, 2, 3, 256, 257, 0x102, u16::MAX]),
+        2 => format.n = wild,
+        _ => format.readers = wild,
+    }
+}
+
+/// A number of steps or of places: at an edge of the format, small, or beyond all measure.
+fn wild_size(random: &mut Random, lent: &Owned) -> usize {
+    let Format { q, n, .. } = lent.format;
+    match random.below(4) {
+        0 => (2 * lent.bases.len()).wrapping_sub(random.below(2)),
+        1 => q.wrapping_mul(2).wrapping_add(n).wrapping_sub(random.below(2)),
+        2 => random.below(20),
+        _ => random.of(&[usize::MAX, usize::MAX / 2, 1 << 32, 256, 1 << 16]),
+    }
+}
+
+/// The least count that is too large, or the one before it.
+fn edge_count(random: &mut Random, lent: &Owned) -> u64 {
+    let product = lent.bases.iter().fold(1u64, |x, &base| x.wrapping_mul(base.into()));
+    product.wrapping_sub(random.below(2) as u64)
+}
+
+fn edge_version(random: &mut Random, lent: &Owned) -> u32 {
+    let product = (0..lent.format.q.min(4)).fold(1u32, |x, _| x.wrapping_mul(lent.format.base.into()));
+    product.wrapping_sub(random.below(2) as u32)
+}
+
+fn wild_writer(random: &mut Random, lent: &Owned) -> Writer {
+    Writer {
+        // A good kind may stand in the low byte alone.
+        kind: random.below(4) as u32 | random.of(&[0, 0, 0, 1 << 8, 1 << 31]),
+        count: match random.below(4) {
+            0 | 1 => 0,
+            2 => edge_count(random, lent),
+            _ => random.next_u64() >> random.below(64),
+        },
+        index: if random.one_in(2) { 0 } else { wild_size(random, lent) },
+        steps: wild_size(random, lent),
+        version: match random.below(4) {
+            0 | 1 => 0,
+            2 => edge_version(random, lent),
+            _ => random.next_u64() as u32 >> random.below(32),
+        },
+    }
+}
+
+fn wild_reader(random: &mut Random, lent: &Owned) -> Reader {
+    let mut reader = Reader {
+        kind: if random.one_in(10) { random.byte() } else { random.below(4) as u8 },
+        allowed: if random.one_in(2) { 0 } else { random.byte() },
+        finished: if random.one_in(2) { 0 } else { random.byte() },
+        steps: wild_size(random, lent),
+        digits: [0; 16],
+    };
+    for _ in 0..random.below(4) {
+        change_byte(random, &mut reader.digits);
+    }
+    reader
+}
+
+/// One byte becomes another: any, a small one, or one next to it.
+fn change_byte(random: &mut Random, bytes: &mut [u8]) {
+    if bytes.is_empty() {
+        return;
+    }
+    let at = random.below(bytes.len());
+    bytes[at] = match random.below(4) {
+        0 => random.byte(),
+        1 => random.below(10) as u8,
+        2 => bytes[at].wrapping_add(1),
+        _ => bytes[at].wrapping_sub(1),
+    };
+}
+
+fn change_length<T: Clone + Default>(random: &mut Random, list: &mut Vec<T>) {
+    let length = match random.below(4) {
+        0 => list.len() + 1,
+        1 => list.len().saturating_sub(1),
+        2 => 0,
+        _ => random.below(600),
+    };
+    list.resize(length, T::default());
+}
+
+fn random_bytes(random: &mut Random, most: usize) -> Vec<u8> {
+    let length = random.below(most + 1);
+    random.bytes(length)
+}
+
+/// How many calls differed.
+fn compared(calls: u64, seed: u64, only: Option<u64>) -> u64 {
+    let mut totals = Totals::default();
+    let mut at = only.unwrap_or(0);
+    while totals.calls < calls {
+        let mut case = Case {
+            random: Random::new(seed.wrapping_mul(0x0100_0000_01b3) ^ at),
+            call: Call::default(),
+            count: 0,
+            name: format!("seed {seed}, case {at}"),
+            verbose: only.is_some(),
+            totals: &mut totals,
+        };
+        if case.random.one_in(4) {
+            case.garbage();
+        } else {
+            case.page();
+        }
+        if only.is_some() {
+            break;
+        }
+        at += 1;
+    }
+    let [open, run, cancel] = totals.functions;
+    println!("{} calls of {at} cases: {open} of open, {run} of run, {cancel} of cancel", totals.calls);
+    println!("{} commands carried out, {} log bytes written", totals.commands, totals.log_bytes);
+    for (number, count) in totals.endings.iter().enumerate().filter(|(_, &count)| count > 0) {
+        println!("ended with {number}: {count}");
+    }
+    println!("{} differed", totals.differed);
+    totals.differed
+}
+
+fn main() {
+    let mut numbers = std::env::args().skip(1).map(|argument| {
+        argument.parse::<u64>().unwrap_or_else(|_| {
+            eprintln!("usage: fuzz CALLS [SEED [CASE]]");
+            std::process::exit(2)
+        })
+    });
+    let calls = numbers.next().unwrap_or(1_000_000);
+    let seed = numbers.next().unwrap_or(1);
+    let differed = compared(calls, seed, numbers.next());
+    std::process::exit(if differed == 0 { 0 } else { 1 });
+}

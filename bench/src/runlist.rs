@@ -1,0 +1,110 @@
+//! The printed run on top of the plain implementation, so that it is held to the recorded runs.
+use std::fmt::Write;
+
+use crate::owned::Owned;
+use crate::plain::{self, number, Format, Refusal};
+
+const MOST_INPUT: usize = 65_536;
+
+/// All that `runlist` prints for this standard input.
+pub fn printed(input: &[u8]) -> String {
+    let mut out = String::new();
+    let (done, ending) = print(input, &mut out);
+    writeln!(out, "END {done} {}", number(ending)).unwrap();
+    out
+}
+
+/// The first bytes of the input that is left, if there are so many.
+fn take<'a>(input: &mut &'a [u8], length: usize) -> Result<&'a [u8], Refusal> {
+    let (taken, rest) = input.split_at_checked(length).ok_or(Refusal::WrongLength)?;
+    *input = rest;
+    Ok(taken)
+}
+
+fn take_number(input: &mut &[u8], length: usize) -> Result<u64, Refusal> {
+    Ok(take(input, length)?.iter().fold(0, |x, &byte| x << 8 | u64::from(byte)))
+}
+
+struct Opened<'a> {
+    lent: Owned,
+    records: &'a [u8],
+    commands: &'a [u8],
+}
+
+fn opened(input: &[u8]) -> Result<Opened<'_>, Refusal> {
+    if input.len() > MOST_INPUT {
+        return Err(Refusal::WrongLength);
+    }
+    let mut rest = input;
+    let m = take_number(&mut rest, 1)? as usize;
+    if !(1..=8).contains(&m) {
+        return Err(Refusal::BadFormat);
+    }
+    // The form is whole before any other number of it is looked at.
+    let mut form = take(&mut rest, 2 * m + 6)?;
+    let bases: Vec<u16> =
+        (0..m).map(|_| take_number(&mut form, 2).map(|base| base as u16)).collect::<Result<_, _>>()?;
+    let format = Format {
+        q: take_number(&mut form, 1)? as usize,
+        base: take_number(&mut form, 2)? as u16,
+        n: take_number(&mut form, 2)? as usize,
+        readers: take_number(&mut form, 1)? as usize,
+    };
+    plain::check_format(&format, &bases)?;
+    let count = take_number(&mut rest, 8)?;
+    let record = take(&mut rest, format.n)?;
+    let lent_records = take_number(&mut rest, 2)? as usize;
+    let records = take(&mut rest, lent_records * format.n)?;
+    let mut owned = Owned::blank(format, &bases);
+    let (format, bases, memory) = owned.lend();
+    plain::open(format, bases, memory, count, record)?;
+    Ok(Opened { lent: owned, records, commands: rest })
+}
+
+/// How many bytes a command has; an unknown kind is refused with any number.
+pub fn command_length(kind: u8) -> usize {
+    match kind {
+        1 => 9,
+        2 | 5 => 3,
+        4 | 6 | 7 => 2,
+        _ => 1,
+    }
+}
+
+/// Commands carried out, and how the run ended.
+fn print(input: &[u8], out: &mut String) -> (usize, plain::Ending) {
+    let Opened { mut lent, records, mut commands } = match opened(input) {
+        Ok(opened) => opened,
+        Err(why) => return (0, Err(why)),
+    };
+    let mut done = 0;
+    // One command a run, since a record is printed as the buffer held it right then.
+    while let Some(&kind) = commands.first() {
+        let (command, rest) = commands.split_at(command_length(kind).min(commands.len()));
+        let mut log = [0; 10];
+        let (format, bases, memory) = lent.lend();
+        let (answer, ending) = plain::run(format, bases, memory, records, command, &mut log);
+        if ending.is_err() {
+            return (done, ending);
+        }
+        match &log[..answer.written] {
+            [1, who, count @ ..] => {
+                let count = u64::from_be_bytes(count.try_into().unwrap());
+                writeln!(out, "C {who} {count}").unwrap();
+            }
+            [2, who, attempts, version @ ..] => {
+                let version = u32::from_be_bytes(version.try_into().unwrap());
+                write!(out, "R {who} {attempts} {version} ").unwrap();
+                for byte in lent.buffer(*who) {
+                    write!(out, "{byte:02x}").unwrap();
+                }
+                out.push('\n');
+            }
+            [3, who, attempts] => writeln!(out, "G {who} {attempts}").unwrap(),
+            _ => {}
+        }
+        done += 1;
+        commands = rest;
+    }
+    (done, Ok(()))
+}

@@ -1,0 +1,279 @@
+//! The plain implementation against document 01: its printed run, its trap, its edges, and each refusal.
+use lagumtay_bench::owned::Owned;
+use lagumtay_bench::plain::{self, number, Answer, Format, Reader, Refusal, Writer};
+use lagumtay_bench::runlist::printed;
+
+fn bytes(text: &str) -> Vec<u8> {
+    let digits: Vec<u8> = text.chars().filter_map(|c| c.to_digit(16)).map(|digit| digit as u8).collect();
+    digits.chunks(2).map(|pair| pair[0] << 4 | pair[1]).collect()
+}
+
+/// Two readers, a version of one place, records of two bytes.
+const FORMAT: Format = Format { q: 1, base: 10, n: 2, readers: 2 };
+const RECORDS: &[u8] = b"bbcc";
+
+fn open(lent: &mut Owned, count: u64, record: &[u8]) -> u8 {
+    let (format, bases, memory) = lent.lend();
+    number(plain::open(format, bases, memory, count, record))
+}
+
+fn opened(bases: &[u16], count: u64) -> Owned {
+    let mut lent = Owned::blank(FORMAT, bases);
+    assert_eq!(open(&mut lent, count, b"aa"), 0);
+    lent
+}
+
+/// Run commands given in hexadecimal; gives commands carried out, the log's entries and the refusal.
+fn run(lent: &mut Owned, commands: &str) -> (usize, Vec<u8>, u8) {
+    run_with(lent, RECORDS, commands, 100)
+}
+
+fn run_with(lent: &mut Owned, records: &[u8], commands: &str, room: usize) -> (usize, Vec<u8>, u8) {
+    let mut log = vec![0xee; room];
+    let (format, bases, memory) = lent.lend();
+    let (Answer { done, written }, ending) = plain::run(format, bases, memory, records, &bytes(commands), &mut log);
+    assert!(log[written..].iter().all(|&byte| byte == 0xee), "the log is written past what is told");
+    log.truncate(written);
+    (done, log, number(ending))
+}
+
+/// The run's last command is refused by this number and changes nothing.
+fn refused(lent: &mut Owned, commands: &str, refused: &str, number: u8) {
+    assert_eq!(run(lent, commands).2, 0);
+    let before = lent.clone();
+    assert_eq!(run(lent, refused), (0, vec![], number));
+    assert_eq!(*lent, before);
+}
+
+#[test]
+fn has_the_layout_of_the_header() {
+    assert_eq!(size_of::<Format>(), 32);
+    assert_eq!(size_of::<Writer>(), 32);
+    assert_eq!(size_of::<Reader>(), 32);
+    assert_eq!(size_of::<Answer>(), 16);
+}
+
+#[test]
+fn prints_the_run_of_document_01() {
+    let input = bytes(
+        "01 000A 01 000A 0002 01 0000000000000004 6161 0001 6262
+         050002 0600 0600 020000 03 03 03 0600 0600 03 0600 0600 0600 0600 010000000000000007 0400 0600 03 03 0600",
+    );
+    assert_eq!(printed(&input), "R 0 2 1 6262\nC 0 7\nEND 20 0\n");
+}
+
+#[test]
+fn a_later_read_may_show_less_than_one_that_it_overlaps() {
+    let mut lent = opened(&[10, 10, 10], 99);
+    let write_150 = "01 0000000000000096 03 03 03 03 03 03";
+    assert_eq!(run(&mut lent, "0400 0600 0600 0600").2, 0);
+    assert_eq!(run(&mut lent, write_150).2, 0);
+    assert_eq!(run(&mut lent, "0401 0601 0601 0601 0601 0601 0601").1, bytes("01 01 0000000000000096"));
+    assert_eq!(run(&mut lent, "0600 0600 0600").1, bytes("01 00 0000000000000064"));
+}
+
+#[test]
+fn shows_the_counts_of_the_edges() {
+    for (bases, a, b, shown) in [
+        (&[10, 10, 10][..], &[0, 0, 0][..], &[1, 0, 0][..], Some(100)),
+        (&[10, 10, 10], &[0, 9, 9], &[1, 9, 9], Some(100)),
+        (&[24, 60], &[11, 57], &[12, 4], Some(12 * 60)),
+        (&[24, 60], &[11, 57], &[11, 59], Some(11 * 60 + 59)),
+        (&[24, 60], &[11, 57], &[11, 57], Some(11 * 60 + 57)),
+        (&[24, 60], &[12, 4], &[11, 57], None),
+        (&[10], &[5], &[7], Some(7)),
+    ] {
+        let mut lent = opened(bases, 0);
+        let m = bases.len();
+        lent.page[..m].copy_from_slice(a);
+        lent.page[m..2 * m].copy_from_slice(b);
+        assert_eq!(run(&mut lent, &format!("0400 {}", "0600".repeat(2 * m - 1))).2, 0);
+        match shown {
+            Some(count) => assert_eq!(run(&mut lent, "0600").1, bytes(&format!("01 00 {count:016x}"))),
+            None => {
+                refused(&mut lent, "", "0600", 10);
+                assert_eq!(run(&mut lent, "0700").2, 0, "a read refused by 10 can be cancelled");
+            }
+        }
+    }
+}
+
+#[test]
+fn writes_the_largest_count() {
+    assert_eq!(opened(&[256; 8], u64::MAX).page[..16], [255; 16]);
+}
+
+#[test]
+fn refusal_1_bad_format() {
+    let good = Owned::blank(FORMAT, &[10]);
+    let mut bad = Vec::new();
+    for bases in [&[][..], &[2; 9], &[1], &[257], &[10, 0], &[u16::MAX]] {
+        bad.push(Owned { bases: bases.to_vec(), ..good.clone() });
+    }
+    for format in [
+        Format { q: 0, ..FORMAT },
+        Format { q: 5, ..FORMAT },
+        Format { base: 1, ..FORMAT },
+        Format { base: 257, ..FORMAT },
+        Format { n: 0, ..FORMAT },
+        Format { n: 257, ..FORMAT },
+        Format { readers: 0, ..FORMAT },
+        Format { readers: 17, ..FORMAT },
+        Format { n: usize::MAX, ..FORMAT },
+    ] {
+        bad.push(Owned { format, ..good.clone() });
+    }
+    for mut lent in bad {
+        let before = lent.clone();
+        assert_eq!(open(&mut lent, 0, b"aa"), 1);
+        assert_eq!(run(&mut lent, "03"), (0, vec![], 1));
+        assert_eq!(lent, before);
+    }
+}
+
+#[test]
+fn refusal_2_wrong_length() {
+    for wrong in [
+        |lent: &mut Owned| lent.page.push(0),
+        |lent: &mut Owned| lent.readers.truncate(1),
+        |lent: &mut Owned| lent.buffers.push(0),
+    ] {
+        let mut lent = opened(&[10], 4);
+        wrong(&mut lent);
+        let before = lent.clone();
+        assert_eq!(open(&mut lent, 0, b"aa"), 2);
+        assert_eq!(run(&mut lent, "03"), (0, vec![], 2));
+        assert_eq!(lent, before);
+    }
+    let mut lent = opened(&[10], 4);
+    assert_eq!(open(&mut lent, 0, b"a"), 2);
+    assert_eq!(run_with(&mut lent, b"bbc", "03", 0), (0, vec![], 2));
+    assert_eq!(run_with(&mut lent, b"", "0400", 0), (1, vec![], 0));
+}
+
+#[test]
+fn refusal_3_invalid_state() {
+    // What no steps could hold, from a page with a count pending, a count read and an attempt under way.
+    let begun = || {
+        let mut lent = opened(&[10, 10], 4);
+        assert_eq!(run(&mut lent, "01 0000000000000005 03 0400 0600 0600 0600 050102 0601 0601 0601").2, 0);
+        lent
+    };
+    let changes: &[fn(&mut Owned)] = &[
+        |lent| lent.page[0] = 10,
+        |lent| lent.page[3] = 10,
+        |lent| lent.page[4] = 10,
+        |lent| lent.page[7] = 10,
+        |lent| lent.writer.kind = 3,
+        |lent| lent.writer.kind = 0,
+        |lent| lent.writer.kind = 0x101,
+        |lent| lent.writer.steps = 4,
+        |lent| lent.writer.count = 100,
+        |lent| lent.writer.version = 1,
+        |lent| lent.writer.index = 1,
+        |lent| lent.writer = Writer { kind: 2, ..Writer::default() },
+        |lent| lent.writer = Writer { kind: 2, version: 10, ..Writer::default() },
+        |lent| lent.writer = Writer { kind: 2, version: 1, index: 2, ..Writer::default() },
+        |lent| lent.writer = Writer { kind: 2, version: 1, steps: 4, ..Writer::default() },
+        |lent| lent.writer = Writer { kind: 2, version: 1, count: 1, ..Writer::default() },
+        |lent| lent.readers[0].kind = 0,
+        |lent| lent.readers[0].kind = 3,
+        |lent| lent.readers[0].steps = 4,
+        |lent| lent.readers[0].allowed = 1,
+        |lent| lent.readers[0].finished = 1,
+        |lent| lent.readers[0].digits[1] = 10,
+        |lent| lent.readers[0].digits[2] = 1,
+        |lent| lent.readers[0].digits[8] = 1,
+        |lent| lent.readers[0].digits[9] = 10,
+        |lent| lent.readers[0].digits[10] = 1,
+        |lent| lent.readers[0].steps = 2,
+        |lent| lent.readers[1].finished = 2,
+        |lent| lent.readers[1].steps = 4,
+        |lent| lent.readers[1].digits[0] = 10,
+        |lent| lent.readers[1].digits[8] = 1,
+        |lent| lent.readers[1].digits[15] = 1,
+    ];
+    assert_eq!(run(&mut begun(), ""), (0, vec![], 0));
+    for (i, change) in changes.iter().enumerate() {
+        let mut lent = begun();
+        change(&mut lent);
+        let before = lent.clone();
+        assert_eq!(run(&mut lent, "03"), (0, vec![], 3), "change {i}");
+        let (format, bases, memory) = lent.lend();
+        assert_eq!(plain::cancel(format, bases, memory, RECORDS, 9), Err(Refusal::InvalidState));
+        assert_eq!(lent, before);
+    }
+}
+
+#[test]
+fn refusals_4_to_9() {
+    let mut lent = opened(&[10], 4);
+    assert_eq!(open(&mut lent, 10, b"aa"), 4);
+    refused(&mut lent, "", "01 000000000000000a", 4);
+    refused(&mut lent, "", "01 0000000000000003", 5);
+    refused(&mut lent, "01 0000000000000004", "01 000000000000000a", 6);
+    refused(&mut lent, "", "020000", 6);
+    refused(&mut lent, "03 03", "03", 7);
+    refused(&mut lent, "", "0600", 7);
+    refused(&mut lent, "", "0700", 7);
+    refused(&mut lent, "0400", "0400", 6);
+    refused(&mut lent, "", "050001", 6);
+    refused(&mut lent, "", "0402", 8);
+    refused(&mut lent, "", "050201", 8);
+    refused(&mut lent, "", "050000", 8);
+    refused(&mut lent, "", "0602", 8);
+    refused(&mut lent, "", "0702", 8);
+    refused(&mut lent, "", "020002", 8);
+    for _ in 0..9 {
+        assert_eq!(run(&mut lent, "020001 03 03 03 03").2, 0);
+    }
+    refused(&mut lent, "", "020000", 9);
+}
+
+#[test]
+fn refusal_11_unknown_command() {
+    let mut lent = opened(&[10], 4);
+    for command in ["00", "08", "ff", "01 00000000000000", "02 00", "04", "05 09", "06", "07"] {
+        refused(&mut lent, "", command, 11);
+    }
+}
+
+#[test]
+fn refusal_12_log_full() {
+    for (begin, end, entry) in [
+        ("0400 0600", "0600", "01 00 0000000000000004"),
+        ("050001 0600 0600 0600", "0600", "02 00 01 00000000"),
+        ("050001 0600 020000 03 0600 0600", "0600", "03 00 01"),
+    ] {
+        let mut lent = opened(&[10], 4);
+        assert_eq!(run(&mut lent, begin).2, 0);
+        let before = lent.clone();
+        let entry = bytes(entry);
+        assert_eq!(run_with(&mut lent, RECORDS, end, entry.len() - 1), (0, vec![], 12));
+        assert_eq!(lent, before);
+        assert_eq!(run_with(&mut lent, RECORDS, end, entry.len()), (1, entry, 0));
+    }
+}
+
+#[test]
+fn a_reader_that_gives_up_leaves_zeros() {
+    let mut lent = opened(&[10], 4);
+    assert_eq!(run(&mut lent, "050001 0600 020000 03 0600 0600 0600").1, bytes("03 00 01"));
+    assert_eq!(lent.buffer(0), [0, 0]);
+    assert_eq!(lent.readers[0], Reader::default());
+}
+
+#[test]
+fn cancel_leaves_the_buffer() {
+    let mut lent = opened(&[10], 4);
+    assert_eq!(run(&mut lent, "050101 0601 0601").2, 0);
+    let cancel = |lent: &mut Owned, who| {
+        let (format, bases, memory) = lent.lend();
+        plain::cancel(format, bases, memory, RECORDS, who)
+    };
+    assert_eq!(cancel(&mut lent, 2), Err(Refusal::NoSuch));
+    assert_eq!(cancel(&mut lent, 0), Err(Refusal::NothingPending));
+    assert_eq!(cancel(&mut lent, 1), Ok(()));
+    assert_eq!(lent.readers[1], Reader::default());
+    assert_eq!(lent.buffer(1), [b'a', 0]);
+}

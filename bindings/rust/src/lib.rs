@@ -1,0 +1,274 @@
+//! A shared page with one writer and up to 16 readers, read without locks, after Lamport. The code behind these calls is
+//! proved: what each answers and leaves is an equation with the definitions under `crates/protocol/specs` of the repository.
+//!
+//! All is done in single steps, so that a schedule decides who moves when: a write is begun by a [`Command`] and each of its
+//! digits moved by another; the same for reads. [`Page::run`] carries out a list of commands and tells in a log how reads
+//! ended.
+
+mod entry;
+mod ffi;
+
+use std::{error, fmt};
+
+pub use entry::{Entries, Entry};
+
+/// A running count.
+#[derive(Clone, Copy, Debug, PartialEq, Eq, PartialOrd, Ord, Hash)]
+pub struct Count(pub u64);
+
+/// The version of a record.
+#[derive(Clone, Copy, Debug, PartialEq, Eq, PartialOrd, Ord, Hash)]
+pub struct Version(pub u32);
+
+/// The numbers of a page: its 1 to 8 count bases, q (1 to 4) version places of one base, n (1 to 256) bytes of record, 1 to
+/// 16 readers. Bases are 2 to 256.
+#[derive(Clone, Debug, PartialEq, Eq)]
+pub struct Format {
+    pub bases: Vec<u16>,
+    pub q: usize,
+    pub base: u16,
+    pub n: usize,
+    pub readers: usize,
+}
+
+/// Why a call or a command was refused; `as u8` is its number.
+#[repr(u8)]
+#[derive(Clone, Copy, Debug, PartialEq, Eq, Hash)]
+pub enum Refusal {
+    BadFormat = 1,
+    WrongLength,
+    InvalidState,
+    CountTooLarge,
+    CountDecreases,
+    Busy,
+    NothingPending,
+    NoSuch,
+    VersionsExhausted,
+    CopiesCrossed,
+    UnknownCommand,
+    LogFull,
+}
+
+impl Refusal {
+    const ALL: [Refusal; 12] = [
+        Refusal::BadFormat,
+        Refusal::WrongLength,
+        Refusal::InvalidState,
+        Refusal::CountTooLarge,
+        Refusal::CountDecreases,
+        Refusal::Busy,
+        Refusal::NothingPending,
+        Refusal::NoSuch,
+        Refusal::VersionsExhausted,
+        Refusal::CopiesCrossed,
+        Refusal::UnknownCommand,
+        Refusal::LogFull,
+    ];
+}
+
+impl fmt::Display for Refusal {
+    fn fmt(&self, f: &mut fmt::Formatter) -> fmt::Result {
+        f.write_str(match self {
+            Refusal::BadFormat => "a number of the format is outside its range",
+            Refusal::WrongLength => "a record, or the lent records, differ in length from the format",
+            Refusal::InvalidState => "a digit at or above its base, or a state that no steps could hold",
+            Refusal::CountTooLarge => "a count not below the product of the bases",
+            Refusal::CountDecreases => "a count below the last one",
+            Refusal::Busy => "a write is pending, or this reader has a read unfinished",
+            Refusal::NothingPending => "a step or cancel with none to do",
+            Refusal::NoSuch => "a reader or record beyond the last, or 0 attempts",
+            Refusal::VersionsExhausted => "the version stands at its top",
+            Refusal::CopiesCrossed => "a count read would finish with its first copy above its second",
+            Refusal::UnknownCommand => "an unknown kind of command, or a body cut short",
+            Refusal::LogFull => "the log has no room for the entry of this step",
+        })
+    }
+}
+
+impl error::Error for Refusal {}
+
+/// The number that a call answers.
+fn ending(number: u8) -> Result<(), Refusal> {
+    match number {
+        0 => Ok(()),
+        _ => Err(Refusal::ALL[usize::from(number) - 1]),
+    }
+}
+
+/// One command. Readers count from 0, and so do the lent records.
+#[derive(Clone, Copy, Debug, PartialEq, Eq)]
+pub enum Command {
+    WriteCount(Count),
+    WriteRecord(u16),
+    WriterStep,
+    BeginCountRead(u8),
+    BeginRecordRead { reader: u8, attempts: u8 },
+    ReaderStep(u8),
+    Cancel(u8),
+}
+
+impl Command {
+    /// The command's bytes, put behind others.
+    pub fn put(self, commands: &mut Vec<u8>) {
+        match self {
+            Command::WriteCount(Count(count)) => {
+                commands.push(1);
+                commands.extend(count.to_be_bytes());
+            }
+            Command::WriteRecord(index) => {
+                commands.push(2);
+                commands.extend(index.to_be_bytes());
+            }
+            Command::WriterStep => commands.push(3),
+            Command::BeginCountRead(reader) => commands.extend([4, reader]),
+            Command::BeginRecordRead { reader, attempts } => commands.extend([5, reader, attempts]),
+            Command::ReaderStep(reader) => commands.extend([6, reader]),
+            Command::Cancel(reader) => commands.extend([7, reader]),
+        }
+    }
+}
+
+/// The bytes of commands.
+pub fn commands(list: impl IntoIterator<Item = Command>) -> Vec<u8> {
+    let mut bytes = Vec::new();
+    list.into_iter().for_each(|command| command.put(&mut bytes));
+    bytes
+}
+
+/// How a run went.
+#[derive(Clone, Copy, Debug, PartialEq, Eq)]
+pub struct Ran<'a> {
+    /// Commands carried out.
+    pub done: usize,
+    /// The part of the log that is written.
+    pub log: &'a [u8],
+    /// The refusal of the command after those, or of the whole run.
+    pub ending: Result<(), Refusal>,
+}
+
+impl<'a> Ran<'a> {
+    pub fn entries(&self) -> Entries<'a> {
+        Entries::new(self.log)
+    }
+}
+
+/// An opened page with its writer, its readers and their buffers.
+#[derive(Clone, Debug, PartialEq, Eq)]
+pub struct Page {
+    format: Format,
+    page: Vec<u8>,
+    writer: ffi::Writer,
+    readers: Vec<ffi::Reader>,
+    buffers: Vec<u8>,
+}
+
+impl Page {
+    /// A page with this count and record: nothing pending, all readers idle, all buffers zero. Refusals 1, 2 and 4.
+    pub fn open(format: Format, count: Count, record: &[u8]) -> Result<Page, Refusal> {
+        // A number outside its range is refused before any length is looked at; until then it must not fill the memory.
+        let (q, n, readers) = (format.q.min(4), format.n.min(256), format.readers.min(16));
+        let mut page = Page {
+            page: vec![0; 2 * format.bases.len() + 2 * q + n],
+            writer: ffi::Writer::default(),
+            readers: vec![ffi::Reader::default(); readers],
+            buffers: vec![0; readers * n],
+            format,
+        };
+        page.open_again(count, record)?;
+        Ok(page)
+    }
+
+    /// The same page from the beginning. A refused opening changes nothing.
+    pub fn open_again(&mut self, count: Count, record: &[u8]) -> Result<(), Refusal> {
+        let format = self.format.lent();
+        // Here and below each pointer comes with its length from a list that lives through the call, and no two overlap.
+        ending(unsafe {
+            ffi::lagumtay_open(
+                &format,
+                self.format.bases.as_ptr(),
+                self.format.bases.len(),
+                self.page.as_mut_ptr(),
+                self.page.len(),
+                &mut self.writer,
+                self.readers.as_mut_ptr(),
+                self.readers.len(),
+                self.buffers.as_mut_ptr(),
+                self.buffers.len(),
+                count.0,
+                record.as_ptr(),
+                record.len(),
+            )
+        })
+    }
+
+    /// Carry out commands up to the first that is refused. `records` are the lent records, n bytes each; what is promised of
+    /// counts and records over many runs holds if all of them get the same ones.
+    pub fn run<'a>(&mut self, records: &[u8], commands: &[u8], log: &'a mut [u8]) -> Ran<'a> {
+        let format = self.format.lent();
+        let mut answer = ffi::Answer::default();
+        let number = unsafe {
+            ffi::lagumtay_run(
+                &format,
+                self.format.bases.as_ptr(),
+                self.format.bases.len(),
+                self.page.as_mut_ptr(),
+                self.page.len(),
+                &mut self.writer,
+                self.readers.as_mut_ptr(),
+                self.readers.len(),
+                self.buffers.as_mut_ptr(),
+                self.buffers.len(),
+                records.as_ptr(),
+                records.len(),
+                commands.as_ptr(),
+                commands.len(),
+                log.as_mut_ptr(),
+                log.len(),
+                &mut answer,
+            )
+        };
+        Ran { done: answer.done, log: &log[..answer.written], ending: ending(number) }
+    }
+
+    /// Drop a reader's read; its buffer keeps its bytes. Refusals 2 and 3 (of the records), 8 and 7.
+    pub fn cancel(&mut self, records: &[u8], reader: u8) -> Result<(), Refusal> {
+        let format = self.format.lent();
+        ending(unsafe {
+            ffi::lagumtay_cancel(
+                &format,
+                self.format.bases.as_ptr(),
+                self.format.bases.len(),
+                self.page.as_mut_ptr(),
+                self.page.len(),
+                &self.writer,
+                self.readers.as_mut_ptr(),
+                self.readers.len(),
+                self.buffers.as_mut_ptr(),
+                self.buffers.len(),
+                records.as_ptr(),
+                records.len(),
+                reader,
+            )
+        })
+    }
+
+    pub fn format(&self) -> &Format {
+        &self.format
+    }
+
+    /// The page's bytes: c1, c2, v1, the record, v2.
+    pub fn bytes(&self) -> &[u8] {
+        &self.page
+    }
+
+    /// A reader's buffer. It holds one whole record right after [`Entry::Accepted`], and may hold a torn one otherwise.
+    pub fn buffer(&self, reader: u8) -> Option<&[u8]> {
+        self.buffers.chunks(self.format.n).nth(reader.into())
+    }
+}
+
+impl Format {
+    fn lent(&self) -> ffi::Format {
+        ffi::Format { q: self.q, base: self.base, n: self.n, readers: self.readers }
+    }
+}

@@ -1,0 +1,160 @@
+//! The bindings against document 01: its printed run, its trap, and the refusals that a caller can meet.
+use lagumtay::Command::*;
+use lagumtay::{commands, Command, Count, Entries, Entry, Format, Page, Refusal, Version};
+
+fn format(bases: &[u16]) -> Format {
+    Format { bases: bases.to_vec(), q: 1, base: 10, n: 2, readers: 2 }
+}
+
+fn opened(bases: &[u16], count: u64) -> Page {
+    Page::open(format(bases), Count(count), b"aa").unwrap()
+}
+
+/// Run commands over two lent records; gives how many were carried out, the entries and the ending.
+fn run(page: &mut Page, list: &[Command]) -> (usize, Vec<Entry>, Result<(), Refusal>) {
+    let mut log = [0; 100];
+    let ran = page.run(b"bbcc", &commands(list.iter().copied()), &mut log);
+    (ran.done, ran.entries().collect(), ran.ending)
+}
+
+/// The same where nothing is refused.
+fn go(page: &mut Page, list: &[Command]) -> Vec<Entry> {
+    let (done, entries, ending) = run(page, list);
+    assert_eq!((done, ending), (list.len(), Ok(())));
+    entries
+}
+
+fn steps(command: Command, times: usize) -> Vec<Command> {
+    vec![command; times]
+}
+
+#[test]
+fn opens_a_page() {
+    let page = opened(&[10, 10], 42);
+    assert_eq!(page.bytes(), [4, 2, 4, 2, 0, b'a', b'a', 0]);
+    assert_eq!(page.buffer(1), Some(&[0, 0][..]));
+    assert_eq!(page.buffer(2), None);
+}
+
+#[test]
+fn refuses_openings() {
+    let open = |format, count, record: &[u8]| Page::open(format, Count(count), record).err();
+    assert_eq!(open(format(&[]), 0, b"aa"), Some(Refusal::BadFormat));
+    assert_eq!(open(format(&[2; 9]), 0, b"aa"), Some(Refusal::BadFormat));
+    assert_eq!(open(format(&[257]), 0, b"aa"), Some(Refusal::BadFormat));
+    assert_eq!(open(Format { q: 5, ..format(&[10]) }, 0, b"aa"), Some(Refusal::BadFormat));
+    assert_eq!(open(Format { base: 1, ..format(&[10]) }, 0, b"aa"), Some(Refusal::BadFormat));
+    assert_eq!(open(Format { n: 0, ..format(&[10]) }, 0, b""), Some(Refusal::BadFormat));
+    assert_eq!(open(Format { n: usize::MAX, ..format(&[10]) }, 0, b"aa"), Some(Refusal::BadFormat));
+    assert_eq!(open(Format { readers: 17, ..format(&[10]) }, 0, b"aa"), Some(Refusal::BadFormat));
+    assert_eq!(open(Format { readers: usize::MAX, ..format(&[10]) }, 0, b"aa"), Some(Refusal::BadFormat));
+    assert_eq!(open(format(&[10]), 0, b"a"), Some(Refusal::WrongLength));
+    assert_eq!(open(format(&[10]), 10, b"aa"), Some(Refusal::CountTooLarge));
+    let mut page = opened(&[10], 4);
+    let before = page.clone();
+    assert_eq!(page.open_again(Count(10), b"aa"), Err(Refusal::CountTooLarge));
+    assert_eq!(page, before);
+}
+
+#[test]
+fn runs_the_schedule_of_document_01() {
+    let mut page = opened(&[10], 4);
+    let begin = [BeginRecordRead { reader: 0, attempts: 2 }, ReaderStep(0), ReaderStep(0), WriteRecord(0)];
+    let list = [
+        &begin[..],
+        &steps(WriterStep, 3),
+        &steps(ReaderStep(0), 2),
+        &[WriterStep],
+        &steps(ReaderStep(0), 4),
+        &[WriteCount(Count(7)), BeginCountRead(0), ReaderStep(0), WriterStep, WriterStep, ReaderStep(0)],
+    ]
+    .concat();
+    let accepted = Entry::Accepted { reader: 0, attempts: 2, version: Version(1) };
+    let shown = Entry::Shown { reader: 0, count: Count(7) };
+    assert_eq!(list.len(), 20);
+    assert_eq!(go(&mut page, &list), [accepted, shown]);
+    assert_eq!(page.buffer(0), Some(&b"bb"[..]));
+}
+
+#[test]
+fn a_later_read_may_show_less_than_one_that_it_overlaps() {
+    let mut page = opened(&[10, 10, 10], 99);
+    go(&mut page, &[&[BeginCountRead(0)][..], &steps(ReaderStep(0), 3)].concat());
+    go(&mut page, &[&[WriteCount(Count(150))][..], &steps(WriterStep, 6)].concat());
+    let second = go(&mut page, &[&[BeginCountRead(1)][..], &steps(ReaderStep(1), 6)].concat());
+    let first = go(&mut page, &steps(ReaderStep(0), 3));
+    assert_eq!(second, [Entry::Shown { reader: 1, count: Count(150) }]);
+    assert_eq!(first, [Entry::Shown { reader: 0, count: Count(100) }]);
+}
+
+#[test]
+fn ends_with_the_first_refused_command() {
+    let mut page = opened(&[10], 4);
+    for (command, why) in [
+        (WriteCount(Count(10)), Refusal::CountTooLarge),
+        (WriteCount(Count(3)), Refusal::CountDecreases),
+        (WriterStep, Refusal::NothingPending),
+        (ReaderStep(1), Refusal::NothingPending),
+        (ReaderStep(2), Refusal::NoSuch),
+        (WriteRecord(2), Refusal::NoSuch),
+        (BeginRecordRead { reader: 1, attempts: 0 }, Refusal::NoSuch),
+    ] {
+        let list = [BeginCountRead(0), Cancel(0), command, WriterStep];
+        assert_eq!(run(&mut page, &list), (2, vec![], Err(why)));
+    }
+    assert_eq!(run(&mut page, &[BeginCountRead(0), BeginCountRead(0)]).2, Err(Refusal::Busy));
+    assert_eq!(page.run(b"", &[8], &mut []).ending, Err(Refusal::UnknownCommand));
+    assert_eq!(page.run(b"bbc", &[], &mut []).ending, Err(Refusal::WrongLength));
+    assert_eq!(page.run(b"", &[6, 0, 6, 0], &mut [0; 9]).ending, Err(Refusal::LogFull));
+}
+
+#[test]
+fn gives_up_with_an_empty_buffer() {
+    let mut page = opened(&[10], 4);
+    let list = [
+        BeginRecordRead { reader: 1, attempts: 1 },
+        ReaderStep(1),
+        WriteRecord(1),
+        WriterStep,
+        ReaderStep(1),
+        ReaderStep(1),
+        ReaderStep(1),
+    ];
+    assert_eq!(go(&mut page, &list), [Entry::GaveUp { reader: 1, attempts: 1 }]);
+    assert_eq!(page.buffer(1), Some(&[0, 0][..]));
+    // The pending write needs its record: without it the state is one that no steps could hold.
+    assert_eq!(page.run(b"bb", &[], &mut []).ending, Err(Refusal::InvalidState));
+}
+
+#[test]
+fn cancels_a_read() {
+    let mut page = opened(&[10], 4);
+    go(&mut page, &[BeginRecordRead { reader: 0, attempts: 1 }, ReaderStep(0), ReaderStep(0)]);
+    assert_eq!(page.cancel(b"", 2), Err(Refusal::NoSuch));
+    assert_eq!(page.cancel(b"", 1), Err(Refusal::NothingPending));
+    assert_eq!(page.cancel(b"", 0), Ok(()));
+    assert_eq!(page.buffer(0), Some(&[b'a', 0][..]));
+}
+
+#[test]
+fn reads_logs() {
+    let log = [1, 3, 0, 0, 0, 0, 0, 0, 1, 2, 2, 4, 5, 0, 0, 1, 0, 3, 6, 7];
+    let entries: Vec<Entry> = Entries::new(&log).collect();
+    assert_eq!(
+        entries,
+        [
+            Entry::Shown { reader: 3, count: Count(258) },
+            Entry::Accepted { reader: 4, attempts: 5, version: Version(256) },
+            Entry::GaveUp { reader: 6, attempts: 7 },
+        ]
+    );
+    assert_eq!(Entries::new(&log[..9]).count(), 0);
+    assert_eq!(Entries::new(&[9, 0, 0]).count(), 0);
+}
+
+#[test]
+fn refusals_have_their_numbers() {
+    assert_eq!(Refusal::BadFormat as u8, 1);
+    assert_eq!(Refusal::NoSuch as u8, 8);
+    assert_eq!(Refusal::LogFull as u8, 12);
+}

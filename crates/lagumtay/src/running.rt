@@ -1,0 +1,74 @@
+// The run over a caller's memory.
+ghost use mathlib.Core.Path.{_≡_};
+ghost use Rattle.protocol.specs.Form.{formOf};
+ghost use Rattle.page.specs.Carry.{Carries};
+ghost use Rattle.lent.specs.Calls.{lent};
+ghost use Rattle.lagumtay.specs.Calls.{ranLeft, runCall, toldOf};
+use page::Ran;
+use protocol::Format;
+use protocol::Reader;
+use protocol::Writer;
+
+// What a run tells beside its refusal: commands carried out, and bytes written into the log.
+#[repr(C)]
+pub struct Answer {
+    pub done: usize,
+    pub written: usize,
+}
+
+// What a run answers, in the types that leave the library.
+pub(crate) struct Told {
+    pub(crate) refusal: u8,
+    pub(crate) answer: Answer,
+    pub(crate) writer: Writer,
+}
+
+fn tell(r: Ran) -> Told
+    ensures { λ t. ⌜ t ≡ toldOf r ⌝ }
+{
+    let e = r.ending;
+    let refusal = protocol::ending_number(e);
+    let answer = Answer {
+        done: r.done,
+        written: r.written,
+    };
+    let writer = r.writer;
+    Told {
+        refusal: refusal,
+        answer: answer,
+        writer: writer,
+    }
+}
+
+// Carry out commands up to the first that is refused. Refusals 1 to 3 leave all that is lent as it was.
+#[no_mangle]
+pub extern "C" fn lagumtay_run(
+    format: &Format,
+    bases: &[u16],
+    page: &mut [u8],
+    writer: &mut Writer,
+    readers: &mut [Reader],
+    buffers: &mut [u8],
+    records: &[u8],
+    commands: &[u8],
+    log: &mut [u8],
+    answer: &mut Answer,
+) -> u8
+    ensures { λ r. ⌜ ranLeft r (now (answer .exit))
+        (lent (now (page .exit)) (now (writer .exit)) (now (readers .exit)) (now (buffers .exit)))
+        (now (log .exit))
+        ≡ runCall (formOf (now (bases .entry)) (now (format .entry))) (now (records .entry))
+        (lent (now (page .entry)) (now (writer .entry)) (now (readers .entry)) (now (buffers .entry)))
+        (now (commands .entry)) (now (log .entry)) ⌝ }
+    ensures { λ r. ⌜ Carries (formOf (now (bases .entry)) (now (format .entry))) (now (records .entry))
+        (lent (now (page .entry)) (now (writer .entry)) (now (readers .entry)) (now (buffers .entry)))
+        (record { given = now (commands .entry); log = now (log .entry) }) ⌝ }
+{
+    let f = *format;
+    let w = *writer;
+    let r = lent::run(readers, f, bases, page, w, buffers, records, commands, log);
+    let t = tell(r);
+    *writer = t.writer;
+    *answer = t.answer;
+    t.refusal
+}

@@ -1,0 +1,153 @@
+/* Lagumtay: a shared page with one writer and up to 16 readers, read without locks. The archive is `liblagumtay.a`.
+ *
+ * Every function is total: for any arguments that keep the rules below it ends, touches nothing but what it is lent, and
+ * answers 0 or the number of one refusal. What it answers and what it leaves is an equation with definitions that can be
+ * read in the repository; the comments name them by their path.
+ *
+ * The rules for a caller: each pointer goes with its length in elements, and is aligned for its type; what is lent to be
+ * written overlaps nothing else that is lent; nobody else touches what is lent during a call. A pointer with length 0 is
+ * not followed.
+ */
+#ifndef LAGUMTAY_H
+#define LAGUMTAY_H
+
+#include <assert.h>
+#include <stddef.h>
+#include <stdint.h>
+
+#ifdef __cplusplus
+extern "C" {
+#endif
+
+/* The numbers of a page but for the m count bases, which are lent beside it: q version places of this base, n bytes of
+ * record, so many readers. m is 1 to 8, q 1 to 4, n 1 to 256, readers 1 to 16, every base 2 to 256.
+ * crates/protocol/specs/Form.antt, `goodForm`. */
+typedef struct {
+    size_t q;
+    uint16_t base;
+    size_t n;
+    size_t readers;
+} lagumtay_format;
+
+/* The writer's state. kind 0: nothing pending; 1: a count; 2: a record. Fields that the kind does not use are zero.
+ * crates/protocol/specs/Memory.antt, `storedWriting`. */
+typedef struct {
+    uint64_t count;
+    size_t index;
+    size_t steps;
+    uint32_t version;
+    uint32_t kind;
+} lagumtay_writer;
+
+/* A reader's state. kind 0: idle; 1: a count read; 2: a record read. Digits gathered of c1 (or v2) stand from digits[0] on,
+ * those of c2 (or v1) from digits[8] on; those not gathered, and fields that the kind does not use, are zero.
+ * crates/protocol/specs/Memory.antt, `storedReading`. */
+typedef struct {
+    uint8_t kind;
+    uint8_t allowed;
+    uint8_t finished;
+    size_t steps;
+    uint8_t digits[16];
+} lagumtay_reader;
+
+/* What a run tells beside its refusal: commands carried out, and bytes written into the log. */
+typedef struct {
+    size_t done;
+    size_t written;
+} lagumtay_answer;
+
+/* The archive was built with this layout. */
+#ifdef __cplusplus
+#define LAGUMTAY_ASSERT(condition) static_assert(condition, #condition)
+#else
+#define LAGUMTAY_ASSERT(condition) _Static_assert(condition, #condition)
+#endif
+LAGUMTAY_ASSERT(sizeof(size_t) == 8);
+LAGUMTAY_ASSERT(sizeof(lagumtay_format) == 32);
+LAGUMTAY_ASSERT(offsetof(lagumtay_format, q) == 0);
+LAGUMTAY_ASSERT(offsetof(lagumtay_format, base) == 8);
+LAGUMTAY_ASSERT(offsetof(lagumtay_format, n) == 16);
+LAGUMTAY_ASSERT(offsetof(lagumtay_format, readers) == 24);
+LAGUMTAY_ASSERT(sizeof(lagumtay_writer) == 32);
+LAGUMTAY_ASSERT(offsetof(lagumtay_writer, count) == 0);
+LAGUMTAY_ASSERT(offsetof(lagumtay_writer, index) == 8);
+LAGUMTAY_ASSERT(offsetof(lagumtay_writer, steps) == 16);
+LAGUMTAY_ASSERT(offsetof(lagumtay_writer, version) == 24);
+LAGUMTAY_ASSERT(offsetof(lagumtay_writer, kind) == 28);
+LAGUMTAY_ASSERT(sizeof(lagumtay_reader) == 32);
+LAGUMTAY_ASSERT(offsetof(lagumtay_reader, kind) == 0);
+LAGUMTAY_ASSERT(offsetof(lagumtay_reader, allowed) == 1);
+LAGUMTAY_ASSERT(offsetof(lagumtay_reader, finished) == 2);
+LAGUMTAY_ASSERT(offsetof(lagumtay_reader, steps) == 8);
+LAGUMTAY_ASSERT(offsetof(lagumtay_reader, digits) == 16);
+LAGUMTAY_ASSERT(sizeof(lagumtay_answer) == 16);
+LAGUMTAY_ASSERT(offsetof(lagumtay_answer, done) == 0);
+LAGUMTAY_ASSERT(offsetof(lagumtay_answer, written) == 8);
+#undef LAGUMTAY_ASSERT
+
+/* The refusals. Checks go 1, 2, 3, 11, 8, 6 or 7, 4, 5, 9, 10, 12; the first that applies is answered.
+ * crates/protocol/specs/Outcome.antt, `refusalNumber`; the order is that of the definitions below. */
+enum lagumtay_refusal {
+    LAGUMTAY_OK = 0,
+    LAGUMTAY_BAD_FORMAT = 1,         /* a number of the format is outside its range */
+    LAGUMTAY_WRONG_LENGTH = 2,       /* page, readers, buffers or record differ in length from the format; the records are
+                                        no multiple of n */
+    LAGUMTAY_INVALID_STATE = 3,      /* a digit at or above its base, or a state that no steps could hold */
+    LAGUMTAY_COUNT_TOO_LARGE = 4,    /* a count not below the product of the bases */
+    LAGUMTAY_COUNT_DECREASES = 5,    /* a count below the one in c2 */
+    LAGUMTAY_BUSY = 6,               /* a write is pending, or this reader has a read unfinished */
+    LAGUMTAY_NOTHING_PENDING = 7,    /* a step or cancel with none to do */
+    LAGUMTAY_NO_SUCH = 8,            /* reader or record beyond the last, or 0 attempts */
+    LAGUMTAY_VERSIONS_EXHAUSTED = 9, /* v1 stands at its top version */
+    LAGUMTAY_COPIES_CROSSED = 10,    /* a count read would finish with its first copy above its second */
+    LAGUMTAY_UNKNOWN_COMMAND = 11,   /* unknown kind, or a body cut short */
+    LAGUMTAY_LOG_FULL = 12           /* the entry that this step makes does not fit */
+};
+
+/* Open a page: the first count in both copies, version 0 in v1 and v2, the first record; nothing pending, all readers idle,
+ * all buffers zero. What was lent before does not matter. It checks 1, 2 and 4 only; a refused opening changes nothing.
+ *   page     2m + 2q + n bytes: c1 (m digits), c2 (m), v1 (q), the record (n), v2 (q)
+ *   readers  as many as the format says
+ *   buffers  n bytes for each reader, one after the other
+ *   record   n bytes
+ * crates/protocol/specs/Run.antt, `openPage`; crates/protocol/specs/State.antt, `opened`. */
+uint8_t lagumtay_open(const lagumtay_format *format, const uint16_t *bases, size_t m, uint8_t *page, size_t page_len,
+                      lagumtay_writer *writer, lagumtay_reader *readers, size_t readers_len, uint8_t *buffers,
+                      size_t buffers_len, uint64_t count, const uint8_t *record, size_t record_len);
+
+/* Carry out commands in order, up to the first that is refused. The refused one has changed nothing, the ones before it
+ * have been carried out; the answer tells how many, and how many bytes of the log are written. The others keep their
+ * contents. Refusals 1 to 3 are checked once at the start: then nothing at all has changed and the answer is 0 and 0.
+ *   records   the lent records, n bytes each; there may be none
+ *   commands  a byte of kind, then its body; longer numbers are high byte first
+ *               01 write a count (8 bytes)            05 begin a record read (reader, attempts allowed)
+ *               02 write a record (2 bytes: index)    06 reader step (reader)
+ *               03 writer step                        07 cancel a read (reader)
+ *               04 begin a count read (reader)
+ *   log       entries of finished reads
+ *               01 count shown (reader, 8 bytes of count)
+ *               02 record accepted (reader, attempts used, 4 bytes of version); the record is in the reader's buffer
+ *               03 gave up (reader, attempts used); the reader's buffer is all zeros
+ * crates/protocol/specs/Run.antt, `run`; commands: Command.antt, `decode`; one command: Step.antt, `carry`; log entries:
+ * Outcome.antt, `entry`; refusal 3: Load.antt, `validMemory`.
+ *
+ * Over all runs from an accepted opening, with the same format and records and nobody else writing: every count shown is
+ * between the last one fully written before the read and the last one begun before its end; accepted records are whole, and
+ * stand with the writes in one order. crates/protocol/specs/Demand.antt. */
+uint8_t lagumtay_run(const lagumtay_format *format, const uint16_t *bases, size_t m, uint8_t *page, size_t page_len,
+                     lagumtay_writer *writer, lagumtay_reader *readers, size_t readers_len, uint8_t *buffers,
+                     size_t buffers_len, const uint8_t *records, size_t records_len, const uint8_t *commands,
+                     size_t commands_len, uint8_t *log, size_t log_len, lagumtay_answer *answer);
+
+/* Cancel the read of one reader: the run of the one command 07 with an empty log. The reader is idle then, and its buffer
+ * keeps its bytes. Refusals 1, 2, 3, 8 and 7, in this order; a refused one changes nothing.
+ * crates/protocol/specs/Step.antt, `carry` of `Cancel`. */
+uint8_t lagumtay_cancel(const lagumtay_format *format, const uint16_t *bases, size_t m, uint8_t *page, size_t page_len,
+                        const lagumtay_writer *writer, lagumtay_reader *readers, size_t readers_len,
+                        uint8_t *buffers, size_t buffers_len, const uint8_t *records, size_t records_len, uint8_t who);
+
+#ifdef __cplusplus
+}
+#endif
+
+#endif

@@ -1,0 +1,106 @@
+/* Lists of length 0 with no memory behind them, and lengths that are one too long or too short: each call answers a
+ * refusal, and all that is lent stays as it was.
+ *
+ *     cc -std=c11 -Iinclude tests/empty.c target/staticlib/liblagumtay.a -o target/empty && target/empty
+ */
+#include <stdio.h>
+#include <stdlib.h>
+#include <string.h>
+
+#include "lagumtay.h"
+
+enum { M = 2, Q = 1, N = 4, READERS = 2, PAGE = 2 * M + 2 * Q + N };
+
+/* What a call is lent, with room for one element more of each. */
+struct lent {
+    lagumtay_format format;
+    uint16_t bases[M + 1];
+    uint8_t page[PAGE + 1];
+    lagumtay_writer writer;
+    lagumtay_reader readers[READERS + 1];
+    uint8_t buffers[READERS * N + 1];
+    uint8_t record[N + 1];
+    uint8_t log[16];
+};
+
+/* The lengths that a call is told; a negative one is a null pointer with length 0. */
+struct lengths {
+    int bases, page, readers, buffers, record;
+};
+
+static const struct lengths right = {M, PAGE, READERS, READERS * N, N};
+static struct lent lent;
+static int checks;
+
+static void check(int good, const char *call, const char *what) {
+    checks++;
+    if (!good) {
+        printf("wrong: %s, %s\n", call, what);
+        exit(1);
+    }
+}
+
+#define LIST(list, length) ((length) < 0 ? NULL : (list)), ((length) < 0 ? 0 : (size_t)(length))
+
+static uint8_t opening(struct lengths l) {
+    return lagumtay_open(&lent.format, LIST(lent.bases, l.bases), LIST(lent.page, l.page), &lent.writer,
+                         LIST(lent.readers, l.readers), LIST(lent.buffers, l.buffers), 5, LIST(lent.record, l.record));
+}
+
+/* The record is the one lent record; a second one may not be cut short. */
+static uint8_t run(struct lengths l) {
+    static const uint8_t commands[] = {4, 0, 3};
+    lagumtay_answer answer = {9, 9};
+    uint8_t why = lagumtay_run(&lent.format, LIST(lent.bases, l.bases), LIST(lent.page, l.page), &lent.writer,
+                               LIST(lent.readers, l.readers), LIST(lent.buffers, l.buffers),
+                               LIST(lent.record, l.record), commands, sizeof commands, lent.log, sizeof lent.log, &answer);
+    if (why <= LAGUMTAY_INVALID_STATE)
+        check(answer.done == 0 && answer.written == 0, "run", "a run refused at its start answers 0 and 0");
+    return why;
+}
+
+static uint8_t cancel(struct lengths l) {
+    return lagumtay_cancel(&lent.format, LIST(lent.bases, l.bases), LIST(lent.page, l.page), &lent.writer,
+                           LIST(lent.readers, l.readers), LIST(lent.buffers, l.buffers), LIST(lent.record, l.record), 1);
+}
+
+/* Each length of the call in turn is none, one less and one more. */
+static void lengths_of(const char *call, uint8_t (*answer)(struct lengths), int last) {
+    static const char *const names[] = {"bases", "page", "readers", "buffers", "record"};
+    for (int which = 0; which < last; which++)
+        for (int change = 0; change < 3; change++) {
+            struct lengths l = right;
+            int *length = (int *[]){&l.bases, &l.page, &l.readers, &l.buffers, &l.record}[which];
+            *length = change == 0 ? -1 : change == 1 ? *length - 1 : *length + 1;
+            /* No base at all is no format; of another number of bases the page has not the length, or the third base, 0,
+             * is none. */
+            int bad_format = which == 0 && change != 1;
+            struct lent before = lent;
+            check(answer(l) == (bad_format ? LAGUMTAY_BAD_FORMAT : LAGUMTAY_WRONG_LENGTH), call, names[which]);
+            check(memcmp(&before, &lent, sizeof lent) == 0, call, "a refused call has changed something");
+        }
+}
+
+int main(void) {
+    lent.format = (lagumtay_format){.q = Q, .base = 256, .n = N, .readers = READERS};
+    lent.bases[0] = 24;
+    lent.bases[1] = 60;
+    memcpy(lent.record, "abcd", N);
+
+    lengths_of("open", opening, 5);
+    check(opening(right) == LAGUMTAY_OK, "open", "the right lengths");
+
+    /* Records may be none; then there is none to write. */
+    lengths_of("run", run, 4);
+    struct lengths cut = right;
+    cut.record = N - 1;
+    check(run(cut) == LAGUMTAY_WRONG_LENGTH, "run", "records that end in the middle");
+    cut.record = -1;
+    check(run(cut) == LAGUMTAY_NOTHING_PENDING, "run", "no records");
+    check(lent.readers[0].kind == 1, "run", "the command before the refused one is carried out");
+
+    lengths_of("cancel", cancel, 4);
+    check(cancel(right) == LAGUMTAY_NOTHING_PENDING, "cancel", "nothing to cancel");
+    printf("%d checks passed\n", checks);
+    return 0;
+}

@@ -1,0 +1,171 @@
+/* The layout of the structs, seen by what the archive writes into their bytes and reads out of them.
+ *
+ *     cc -std=c11 -Iinclude tests/layout.c target/staticlib/liblagumtay.a -o target/layout && target/layout
+ *
+ * The header asserts the C side; here each field gets a value of its own, and its bytes must be where the archive looks.
+ */
+#include <stdio.h>
+#include <stdlib.h>
+#include <string.h>
+
+#include "lagumtay.h"
+
+enum { M = 3, Q = 2, N = 5, READERS = 3 };
+
+/* Bytes, so that no compiler's idea of the structs is involved. */
+static _Alignas(8) uint8_t format[32], writer[32], readers[READERS * 32], answer[16];
+static const uint16_t bases[M] = {7, 8, 9};
+static uint8_t page[2 * M + 2 * Q + N], buffers[READERS * N], records[3 * N], log_bytes[16];
+static int checks;
+
+static void check(int good, const char *what) {
+    checks++;
+    if (!good) {
+        printf("wrong: %s\n", what);
+        exit(1);
+    }
+}
+
+static uint64_t at(const uint8_t *bytes, size_t offset, size_t size) {
+    uint64_t x = 0;
+    memcpy(&x, bytes + offset, size); /* low byte first, as on every machine that the archive is built for */
+    return x;
+}
+
+static void put(uint8_t *bytes, size_t offset, uint64_t x, size_t size) {
+    memcpy(bytes + offset, &x, size);
+}
+
+static uint8_t opening(void) {
+    static const uint8_t record[N] = "abcde";
+    return lagumtay_open((const lagumtay_format *)format, bases, M, page, sizeof page, (lagumtay_writer *)writer,
+                         (lagumtay_reader *)readers, READERS, buffers, sizeof buffers, 100, record, N);
+}
+
+static uint8_t run(const char *commands, size_t length) {
+    memset(answer, 0xee, sizeof answer);
+    return lagumtay_run((const lagumtay_format *)format, bases, M, page, sizeof page, (lagumtay_writer *)writer,
+                        (lagumtay_reader *)readers, READERS, buffers, sizeof buffers, records, sizeof records,
+                        (const uint8_t *)commands, length, log_bytes, sizeof log_bytes, (lagumtay_answer *)answer);
+}
+#define RUN(commands) run(commands, sizeof(commands) - 1)
+
+/* The format is good; with one more in the field at this offset, it is not the one that the lengths are for. */
+static void format_field(size_t offset, size_t size, uint64_t value, const char *what) {
+    check(at(format, offset, size) == value, what);
+    put(format, offset, value + 1, size);
+    check(opening() == LAGUMTAY_WRONG_LENGTH, what);
+    put(format, offset, 0, size);
+    check(opening() == LAGUMTAY_BAD_FORMAT, what);
+    put(format, offset, value, size);
+}
+
+/* A value that no steps could leave in a state's field is refused; the field's own value is then put back. */
+static void state_field(uint8_t *state, size_t offset, size_t size, uint64_t wrong, const char *what) {
+    uint64_t value = at(state, offset, size);
+    put(state, offset, wrong, size);
+    check(RUN("") == LAGUMTAY_INVALID_STATE, what);
+    check(at(answer, 0, 8) == 0 && at(answer, 8, 8) == 0, "a run refused by 3 answers 0 and 0");
+    put(state, offset, value, size);
+    check(RUN("") == LAGUMTAY_OK, what);
+}
+
+int main(void) {
+    put(format, 0, Q, 8);
+    put(format, 8, 11, 2);
+    put(format, 16, N, 8);
+    put(format, 24, READERS, 8);
+    format_field(0, 8, Q, "format.q");
+    format_field(16, 8, N, "format.n");
+    format_field(24, 8, READERS, "format.readers");
+    put(format, 8, 257, 2);
+    check(opening() == LAGUMTAY_BAD_FORMAT, "format.base");
+    put(format, 8, 11, 2);
+
+    /* An opening writes all fields of all states. */
+    memset(writer, 0xaa, sizeof writer);
+    memset(readers, 0xaa, sizeof readers);
+    check(opening() == LAGUMTAY_OK, "open");
+    for (size_t i = 0; i < sizeof writer; i++)
+        check(writer[i] == 0, "the opened writer");
+    for (size_t r = 0; r < READERS; r++) {
+        check(at(readers, 32 * r, 3) == 0, "an opened reader's kind, allowed, finished");
+        for (size_t i = 8; i < 32; i++)
+            check(readers[32 * r + i] == 0, "an opened reader's steps and digits");
+    }
+    /* 100 is 1, 3, 1 in bases 7, 8, 9 */
+    check(memcmp(page, "\1\3\1\1\3\1\0\0abcde\0\0", sizeof page) == 0, "the opened page");
+
+    /* A count write after two steps: 300 is 4, 1, 3. */
+    check(RUN("\1\0\0\0\0\0\0\1\54\3\3") == LAGUMTAY_OK, "write a count");
+    check(at(answer, 0, 8) == 3 && at(answer, 8, 8) == 0, "answer.done and answer.written");
+    check(at(writer, 0, 8) == 300, "writer.count");
+    check(at(writer, 8, 8) == 0, "writer.index of a count");
+    check(at(writer, 16, 8) == 2, "writer.steps");
+    check(at(writer, 24, 4) == 0, "writer.version of a count");
+    check(at(writer, 28, 4) == 1, "writer.kind of a count");
+    check(memcmp(page + M, "\4\1\1", M) == 0, "c2 after two steps");
+    state_field(writer, 0, 8, 504, "writer.count");
+    state_field(writer, 8, 8, 1, "writer.index");
+    state_field(writer, 16, 8, 2 * M, "writer.steps");
+    state_field(writer, 24, 4, 1, "writer.version");
+    state_field(writer, 28, 4, 3, "writer.kind");
+    check(RUN("\3\3\3\3") == LAGUMTAY_OK, "the rest of the count");
+
+    /* Record 2 after three steps. */
+    check(RUN("\2\0\2\3\3\3") == LAGUMTAY_OK, "write a record");
+    check(at(writer, 0, 8) == 0, "writer.count of a record");
+    check(at(writer, 8, 8) == 2, "writer.index");
+    check(at(writer, 16, 8) == 3, "writer.steps of a record");
+    check(at(writer, 24, 4) == 1, "writer.version");
+    check(at(writer, 28, 4) == 2, "writer.kind of a record");
+    state_field(writer, 8, 8, 3, "writer.index of a record");
+    state_field(writer, 24, 4, 121, "writer.version of a record");
+
+    /* Reader 1 has c1 and the last digit of c2; reader 2 is in its second attempt, with both digits of v2. */
+    check(RUN("\4\1\6\1\6\1\6\1\6\1") == LAGUMTAY_OK, "a count read");
+    check(RUN("\5\2\3\6\2\6\2\6\2\6\2\6\2\6\2\6\2\6\2\6\2\6\2\6\2") == LAGUMTAY_OK, "a record read");
+    const uint8_t *reader = readers + 32;
+    check(at(reader, 0, 3) == 1, "reader.kind of a count read");
+    check(at(reader, 8, 8) == 4, "reader.steps");
+    check(memcmp(reader + 16, "\4\1\3\0\0\0\0\0\0\0\3\0\0\0\0\0", 16) == 0, "reader.digits");
+    reader = readers + 64;
+    check(at(reader, 0, 1) == 2, "reader.kind of a record read");
+    check(at(reader, 1, 1) == 3, "reader.allowed");
+    check(at(reader, 2, 1) == 1, "reader.finished");
+    check(at(reader, 8, 8) == 2, "reader.steps of a record read");
+    state_field(readers + 32, 0, 1, 3, "reader.kind");
+    state_field(readers + 32, 8, 8, 2 * M, "reader.steps");
+    state_field(readers + 32, 16, 1, 7, "the first digit");
+    state_field(readers + 32, 31, 1, 1, "the last digit");
+    state_field(readers + 64, 1, 1, 1, "reader.allowed");
+    state_field(readers + 64, 2, 1, 3, "reader.finished");
+    check(at(readers, 0, 3) == 0, "reader 0 is idle");
+
+    /* The log and the answer's second number. */
+    check(RUN("\6\1\6\1") == LAGUMTAY_OK, "the end of the count read");
+    check(at(answer, 0, 8) == 2 && at(answer, 8, 8) == 10, "answer.written");
+    check(memcmp(log_bytes, "\1\1\0\0\0\0\0\0\1\54", 10) == 0, "the log");
+
+    /* Lists that are empty need no memory. */
+    memset(answer, 0xee, sizeof answer);
+    check(opening() == LAGUMTAY_OK, "open once more");
+    check(lagumtay_run((const lagumtay_format *)format, bases, M, page, sizeof page, (lagumtay_writer *)writer,
+                       (lagumtay_reader *)readers, READERS, buffers, sizeof buffers, NULL, 0, NULL, 0, NULL, 0,
+                       (lagumtay_answer *)answer) == LAGUMTAY_OK, "empty lists");
+    check(at(answer, 0, 8) == 0 && at(answer, 8, 8) == 0, "an empty run");
+
+    /* Cancel. */
+    check(RUN("\5\0\1\6\0\6\0\6\0") == LAGUMTAY_OK, "a record read to cancel");
+    const uint8_t who[] = {READERS, 1, 0, 0};
+    const uint8_t answers[] = {LAGUMTAY_NO_SUCH, LAGUMTAY_NOTHING_PENDING, LAGUMTAY_OK, LAGUMTAY_NOTHING_PENDING};
+    for (size_t i = 0; i < sizeof who; i++)
+        check(lagumtay_cancel((const lagumtay_format *)format, bases, M, page, sizeof page, (lagumtay_writer *)writer,
+                              (lagumtay_reader *)readers, READERS, buffers, sizeof buffers, records, sizeof records,
+                              who[i]) == answers[i], "cancel");
+    check(at(readers, 0, 3) == 0 && at(readers, 8, 8) == 0, "the cancelled reader is idle");
+    check(buffers[0] == 'a' && buffers[1] == 0, "its buffer keeps its bytes");
+
+    printf("%d checks passed\n", checks);
+    return 0;
+}
