@@ -1,12 +1,12 @@
 /* Lagumtay: a shared page with one writer and up to 16 readers, read without locks. The archive is `liblagumtay.a`.
  *
- * Every function is total: for any arguments that keep the rules below it ends, touches nothing but what it is lent, and
- * answers 0 or the number of one refusal. What it answers and what it leaves is an equation with definitions that can be
- * read in the repository; the comments name them by their path.
+ * Every function is total: for any arguments that keep the rules below it ends, touches nothing but what it is lent,
+ * and answers 0 or the number of one refusal. What it answers and what it leaves is an equation with definitions that
+ * can be read in the repository; the comments name them by their path.
  *
- * The rules for a caller: each pointer goes with its length in elements, and is aligned for its type; what is lent to be
- * written overlaps nothing else that is lent; nobody else touches what is lent during a call. A pointer with length 0 is
- * not followed.
+ * The rules for a caller: each pointer goes with its length in elements, and is aligned for its type; what is lent to
+ * be written overlaps nothing else that is lent; nobody else touches what is lent during a call. A pointer with
+ * length 0 is not followed.
  */
 #ifndef LAGUMTAY_H
 #define LAGUMTAY_H
@@ -39,8 +39,9 @@ typedef struct {
     uint32_t kind;
 } lagumtay_writer;
 
-/* A reader's state. kind 0: idle; 1: a count read; 2: a record read. Digits gathered of c1 (or v2) stand from digits[0] on,
- * those of c2 (or v1) from digits[8] on; those not gathered, and fields that the kind does not use, are zero.
+/* A reader's state. kind 0: idle; 1: a count read; 2: a record read. Digits gathered of c1 (or v2) stand from
+ * digits[0] on, those of c2 (or v1) from digits[8] on; those not gathered, and fields that the kind does not use, are
+ * zero. The five bytes before steps are padding: they hold nothing, and a call may change them.
  * crates/protocol/specs/Memory.antt, `storedReading`. */
 typedef struct {
     uint8_t kind;
@@ -90,8 +91,8 @@ LAGUMTAY_ASSERT(offsetof(lagumtay_answer, written) == 8);
 enum lagumtay_refusal {
     LAGUMTAY_OK = 0,
     LAGUMTAY_BAD_FORMAT = 1,         /* a number of the format is outside its range */
-    LAGUMTAY_WRONG_LENGTH = 2,       /* page, readers, buffers or record differ in length from the format; the records are
-                                        no multiple of n */
+    LAGUMTAY_WRONG_LENGTH = 2,       /* page, readers, buffers or record differ in length from the format; the records
+                                        are no multiple of n */
     LAGUMTAY_INVALID_STATE = 3,      /* a digit at or above its base, or a state that no steps could hold */
     LAGUMTAY_COUNT_TOO_LARGE = 4,    /* a count not below the product of the bases */
     LAGUMTAY_COUNT_DECREASES = 5,    /* a count below the one in c2 */
@@ -104,13 +105,15 @@ enum lagumtay_refusal {
     LAGUMTAY_LOG_FULL = 12           /* the entry that this step makes does not fit */
 };
 
-/* Open a page: the first count in both copies, version 0 in v1 and v2, the first record; nothing pending, all readers idle,
- * all buffers zero. What was lent before does not matter. It checks 1, 2 and 4 only; a refused opening changes nothing.
+/* Open a page: the first count in both copies, version 0 in v1 and v2, the first record; nothing pending, all readers
+ * idle, all buffers zero. What was lent before does not matter. It checks 1, 2 and 4 only; a refused opening changes
+ * nothing.
  *   page     2m + 2q + n bytes: c1 (m digits), c2 (m), v1 (q), the record (n), v2 (q)
  *   readers  as many as the format says
  *   buffers  n bytes for each reader, one after the other
  *   record   n bytes
- * crates/protocol/specs/Run.antt, `openPage`; crates/protocol/specs/State.antt, `opened`. */
+ * crates/protocol/specs/Run.antt, `openPage`; State.antt, `opened`; this call: crates/lagumtay/specs/Calls.antt,
+ * `openCall`. */
 uint8_t lagumtay_open(const lagumtay_format *format, const uint16_t *bases, size_t m, uint8_t *page, size_t page_len,
                       lagumtay_writer *writer, lagumtay_reader *readers, size_t readers_len, uint8_t *buffers,
                       size_t buffers_len, uint64_t count, const uint8_t *record, size_t record_len);
@@ -128,23 +131,40 @@ uint8_t lagumtay_open(const lagumtay_format *format, const uint16_t *bases, size
  *               01 count shown (reader, 8 bytes of count)
  *               02 record accepted (reader, attempts used, 4 bytes of version); the record is in the reader's buffer
  *               03 gave up (reader, attempts used); the reader's buffer is all zeros
- * crates/protocol/specs/Run.antt, `run`; commands: Command.antt, `decode`; one command: Step.antt, `carry`; log entries:
- * Outcome.antt, `entry`; refusal 3: Load.antt, `validMemory`.
- *
- * Over all runs from an accepted opening, with the same format and records and nobody else writing: every count shown is
- * between the last one fully written before the read and the last one begun before its end; accepted records are whole, and
- * stand with the writes in one order. crates/protocol/specs/Demand.antt. */
+ * crates/protocol/specs/Run.antt, `run`; commands: Command.antt, `decode`; one command: Step.antt, `carry`; log
+ * entries: Outcome.antt, `entry`; refusal 3: Load.antt, `validMemory`; this call: crates/lagumtay/specs/Calls.antt,
+ * `runCall`. */
 uint8_t lagumtay_run(const lagumtay_format *format, const uint16_t *bases, size_t m, uint8_t *page, size_t page_len,
                      lagumtay_writer *writer, lagumtay_reader *readers, size_t readers_len, uint8_t *buffers,
                      size_t buffers_len, const uint8_t *records, size_t records_len, const uint8_t *commands,
                      size_t commands_len, uint8_t *log, size_t log_len, lagumtay_answer *answer);
 
-/* Cancel the read of one reader: the run of the one command 07 with an empty log. The reader is idle then, and its buffer
- * keeps its bytes. Refusals 1, 2, 3, 8 and 7, in this order; a refused one changes nothing.
- * crates/protocol/specs/Step.antt, `carry` of `Cancel`. */
+/* Cancel the read of one reader: the run of the one command 07 with an empty log. The reader is idle then, and its
+ * buffer keeps its bytes. Refusals 1, 2, 3, 8 and 7, in this order; a refused one changes nothing.
+ * crates/protocol/specs/Step.antt, `carry` of `Cancel`; this call: crates/lagumtay/specs/Calls.antt, `cancelCall`. */
 uint8_t lagumtay_cancel(const lagumtay_format *format, const uint16_t *bases, size_t m, uint8_t *page, size_t page_len,
                         const lagumtay_writer *writer, lagumtay_reader *readers, size_t readers_len,
                         uint8_t *buffers, size_t buffers_len, const uint8_t *records, size_t records_len, uint8_t who);
+
+/* WHAT IS PROMISED over all runs from an accepted opening, with the same format and records, nobody else writing what
+ * is lent, and no two calls at once. All of it is one theorem: crates/protocol/specs/Demand.antt, `Claim`. */
+
+/* A count shown lies between the last count fully written before the read's first step and the last one begun before
+ * its last step. Demand.antt, `Span`. */
+
+/* An accepted record is whole: the bytes in the buffer, right after the step that accepted it, are those of one
+ * write, and the version is the number of that write, 0 for the opening. Demand.antt, `Reports`. */
+
+/* Whole record writes and accepted record reads stand in one order, each at a moment between its first and its last
+ * step, and a read has the record of the last write before it. Demand.antt, `Order`. */
+
+/* An attempt at a record read that no unfinished record write meets is accepted. Demand.antt, `Undisturbed`. */
+
+/* A record read takes at most the attempts that it was allowed, of 2q + n of its own steps each; giving up is told,
+ * comes with the last attempt only, and leaves a buffer of zeros. Demand.antt, `Ends`, `Used`. */
+
+/* No run is refused by 1, 3 or 10, nor by 2 unless the records are no multiple of n: such an answer says that
+ * something that was lent has been written by somebody else. Demand.antt, `Mild`. */
 
 #ifdef __cplusplus
 }
