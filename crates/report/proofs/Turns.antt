@@ -6,3 +6,4 @@ pub mod Runs
 pub mod Entries
 pub mod Calls
 pub mod Forward
+pub mod Falls

@@ -7,6 +7,7 @@ use Prim.Native.Nat.{ℕ, suc, _-_, _≤_, _<_}
 use native.Mathlib.Omega.{arith}
 use lib.ListN.{length}
 use lib.Seq.{length-take-le}
+use Rattle.report.proofs.Turns.Falls.{falls}
 use Rattle.cases.proofs.begins.Statement.{statement}
 use Rattle.cases.proofs.begins.Tie as tie
 
@@ -40,13 +41,6 @@ slice-aggregate-goes-on c = sym (length-take-le _ _ (array-share-prefix-line (c 
 
 goes-on-requires : tie.Need-goes-on-requires Inv-loop μ-loop
 goes-on-requires c κs = search needs
-
-falls : (n a b : ℕ) (old new : Bool) → old ≡ false → (new ≡ false → (a < b) × (b ≤ n))
-    → cond new 0 (suc (n - b)) < cond old 0 (suc (n - a))
-falls n a b old true e f = rw e (omega arith)
-falls n a b old false e f =
-    let (low, high) = f refl in
-    rw e (omega arith)
 
 -- a turn's beginning and the entry
 abbrev in-loop : tie.After-next Inv-loop μ-loop → tie.In-loop Inv-loop μ-loop

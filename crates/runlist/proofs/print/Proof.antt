@@ -7,6 +7,7 @@ use Prim.Native.Nat.{ℕ, suc, _-_, _≤_, _<_}
 use native.Mathlib.Omega.{arith}
 use lib.ListN.{length}
 use lib.Seq.{length-take-le}
+use Rattle.report.proofs.Turns.Falls.{falls}
 use Rattle.runlist.proofs.print.Statement.{statement}
 use Rattle.runlist.proofs.print.Tie as tie
 
@@ -64,13 +65,6 @@ same-length-2 c =
 
 returns : tie.Need-returns Inv-loop μ-loop
 returns c = search needs
-
-falls : (n a b : ℕ) (old new : Bool) → old ≡ false → (new ≡ false → (a < b) × (b ≤ n))
-    → cond new 0 (suc (n - b)) < cond old 0 (suc (n - a))
-falls n a b old true e f = rw e (omega arith)
-falls n a b old false e f =
-    let (low, high) = f refl in
-    rw e (omega arith)
 
 loop-less : tie.Need-loop-less Inv-loop μ-loop
 loop-less c =
