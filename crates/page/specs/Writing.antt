@@ -1,12 +1,13 @@
 -- The writer's commands, on the lent writer.
 use mathlib.Core.Path.{_≡_}
-use mathlib.Core.List.{List}
+use mathlib.Core.List.{List, _++_}
 use mathlib.Core.Bool.{true, cond, not}
-use Prim.Native.Nat.{ℕ, suc, _+_, _<_}
+use Prim.Native.Nat.{ℕ, suc, _+_}
 use lib.Dec.{eqb, ltb, leb}
-use lib.ListN.{length, getD, set, drop}
+use lib.ListN.{length, getD, set, take, drop}
 use Rattle.radix.specs.declared.Count.{Count}
-use Rattle.radix.specs.Digits.{product, value}
+use Rattle.radix.specs.Digits.{product, value, digits}
+use Rattle.radix.specs.Answers.{Into, into, digitsInto}
 use Rattle.protocol.specs.Form.{Form, m, versionBases, goodForm, countSteps, recordSteps}
 use Rattle.protocol.specs.Allowed.{allowedPage, allowedWriting}
 use Rattle.protocol.specs.Layout.{c2, v1, look, countOrder, countDigits, recordOrder, recordDigits}
@@ -25,9 +26,15 @@ use Rattle.protocol.specs.declared.Refusal.the-variants.{
 use Rattle.page.specs.declared.writing.Put.{Put}
 use Rattle.page.specs.declared.writing.Begun.{Begun}
 
--- for each digit the product of the bases after it
-abbrev pub Weights : List ℕ → List ℕ → Type 0
-Weights bs w = (k : ℕ) → k < length bs → getD w k 0 ≡ product (drop (suc k) bs)
+-- the digits of a number, into the first places of a list
+abbrev pub intoFirst : List ℕ → ℕ → List ℕ → Into
+intoFirst bs x l =
+    let y = digitsInto bs x (take (length bs) l) in into (y .answer) (y .out ++ drop (length bs) l)
+
+-- the first places hold the digits of the pending write; of nothing pending they say nothing
+pub record Pending (F : Form) (w : Writer) (l : List ℕ) : Type 0 where
+  pub ofCount : w .kind ≡ 1 → take (m F) l ≡ digits (F .bases) (w .count .0)
+  pub ofRecord : w .kind ≡ 2 → take (F .q) l ≡ digits (versionBases F) (w .version .0)
 
 abbrev pub put : (position digit : ℕ) → Put
 put p d = record { position = p; digit = d }
@@ -90,11 +97,3 @@ pub record BeginReady (F : Form) (page : List ℕ) (w : Writer) : Type 0 where
   pub long : length page ≡ countSteps F + recordSteps F
   pub allows : allowedPage F page ≡ true
   pub kept : storedWriting (loadWriting w) ≡ w
-
--- the products that a run makes once at its start
-pub record Weighed (F : Form) (weights versionBases′ versionWeights : List ℕ) : Type 0 where
-  pub counts : Weights (F .bases) weights
-  pub countsLong : length weights ≡ 8
-  pub bases : versionBases′ ≡ versionBases F
-  pub versions : Weights (versionBases F) versionWeights
-  pub versionsLong : length versionWeights ≡ 8

@@ -2,6 +2,7 @@
 ghost use mathlib.Core.Path.{_≡_};
 ghost use Prim.Native.Nat.{_<_};
 ghost use Rattle.protocol.specs.Form.{formOf};
+ghost use Rattle.protocol.specs.declared.Refusal.the-variants.{NoSuch};
 ghost use Rattle.page.specs.Store.{store};
 ghost use Rattle.page.specs.Reader.{moved, told, StepReady};
 ghost use Rattle.page.specs.Command.{beginRecordStore, reads};
@@ -10,6 +11,12 @@ use crate::command::Read;
 use crate::reader;
 use protocol::Format;
 use protocol::Refusal;
+
+fn no_such() -> Answer
+    ensures { λ r. ⌜ r ≡ Answer.Refused NoSuch ⌝ }
+{
+    Answer::Refused(Refusal::NoSuch)
+}
 
 // A record read begins, if it may take an attempt.
 fn begin_record(
@@ -30,12 +37,13 @@ fn begin_record(
         (now (digits .entry))) who ⌝ }
 {
     if attempts == 0 {
-        return Answer::Refused(Refusal::NoSuch);
+        return no_such();
     }
     reader::begin(who, 2, attempts, kinds, allowed, finished, steps, digits)
 }
 
-// One of the four commands of a reader, if there is a reader of that number.
+// One of the four commands of a reader, if there is a reader of that number. That is tested in each arm, so that a
+// command is told from the others once.
 pub(crate) fn read(
     format: Format,
     bases: &[u16],
@@ -59,27 +67,43 @@ pub(crate) fn read(
         (store (now (kinds .entry)) (now (allowed .entry)) (now (finished .entry)) (now (steps .entry))
         (now (digits .entry))) (now (buffers .entry)) who room x ⌝ }
 {
-    if format.readers <= reader::index(who) {
-        return Answer::Refused(Refusal::NoSuch);
-    }
+    let there = reader::index(who) < format.readers;
     match x {
-        Read::Count => reader::begin(who, 1, 0, kinds, allowed, finished, steps, digits),
+        Read::Count => {
+            if !there {
+                return no_such();
+            }
+            reader::begin(who, 1, 0, kinds, allowed, finished, steps, digits)
+        }
         Read::Record(attempts) => {
+            if !there {
+                return no_such();
+            }
             begin_record(who, attempts, kinds, allowed, finished, steps, digits)
         }
-        Read::Step => reader::step(
-            format,
-            bases,
-            page,
-            who,
-            room,
-            kinds,
-            allowed,
-            finished,
-            steps,
-            digits,
-            buffers,
-        ),
-        Read::Cancel => reader::cancel(who, kinds, allowed, finished, steps, digits),
+        Read::Step => {
+            if !there {
+                return no_such();
+            }
+            reader::step(
+                format,
+                bases,
+                page,
+                who,
+                room,
+                kinds,
+                allowed,
+                finished,
+                steps,
+                digits,
+                buffers,
+            )
+        }
+        Read::Cancel => {
+            if !there {
+                return no_such();
+            }
+            reader::cancel(who, kinds, allowed, finished, steps, digits)
+        }
     }
 }

@@ -3,7 +3,7 @@ ghost use mathlib.Core.Path.{_≡_};
 ghost use Rattle.protocol.specs.Form.{formOf};
 ghost use Rattle.protocol.specs.Run.{Run};
 ghost use Rattle.page.specs.Store.{store, memoryOf, Lists16};
-ghost use Rattle.page.specs.Writing.{Weighed};
+ghost use Rattle.page.specs.Writing.{Pending};
 ghost use Rattle.page.specs.Carry.{here, Ready, ranHere, wentHere, runHere, Carries};
 use crate::Ran;
 use crate::start;
@@ -31,9 +31,7 @@ fn ran(p: Progress, ending: Ending, w: Writer) -> Ran
 fn run_all(
     format: Format,
     bases: &[u16],
-    weights: &[u64],
-    version_bases: &[u16],
-    version_weights: &[u64],
+    pending: &mut [u8; 8],
     page: &mut [u8],
     writer: Writer,
     kinds: &mut [u8; 16],
@@ -49,7 +47,7 @@ fn run_all(
     requires { ⌜ Ready (formOf (now bases) format) (now records)
         (here (now page) writer (store (now kinds) (now allowed) (now finished) (now steps) (now digits)) (now buffers))
         × Lists16 (store (now kinds) (now allowed) (now finished) (now steps) (now digits))
-        × Weighed (formOf (now bases) format) (now weights) (now «version_bases») (now «version_weights») ⌝ }
+        × Pending (formOf (now bases) format) writer (now pending) ⌝ }
     ensures { λ r. ⌜ ranHere r
         (here (now (page .exit)) (r .writer)
         (store (now (kinds .exit)) (now (allowed .exit)) (now (finished .exit)) (now (steps .exit))
@@ -69,9 +67,7 @@ fn run_all(
         let t = turn::turn(
             format,
             bases,
-            weights,
-            version_bases,
-            version_weights,
+            pending,
             page,
             w,
             kinds,
@@ -156,17 +152,11 @@ pub fn run(
     if let Ending::Refused(why) = e {
         return refused_run(why, writer);
     }
-    let q = format.q;
-    let all = [format.base; 4];
-    let version_bases = &all[..q];
-    let weights = writing::weights(bases);
-    let version_weights = writing::weights(version_bases);
+    let mut pending = writing::pending(format, bases, writer);
     run_all(
         format,
         bases,
-        &weights,
-        version_bases,
-        &version_weights,
+        &mut pending,
         page,
         writer,
         kinds,

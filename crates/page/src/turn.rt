@@ -1,20 +1,25 @@
 // One command with its entry in the log.
 ghost use mathlib.Core.Path.{_≡_};
-ghost use Prim.Native.Nat.{_+_, _≤_, _<_};
+ghost use mathlib.Core.List.{List};
+ghost use Prim.Native.Nat.{ℕ, _+_, _≤_, _<_};
 ghost use lib.ListN.{length};
 ghost use Rattle.protocol.specs.Form.{formOf};
 ghost use Rattle.protocol.specs.Outcome.{entry as entryOf};
 ghost use Rattle.protocol.specs.declared.Outcome.{Outcome};
+ghost use Rattle.protocol.specs.declared.Outcome.the-variants.{Nothing};
 ghost use Rattle.page.specs.declared.Answer.the-variants.{Done};
 ghost use Rattle.page.specs.Store.{store, Lists16};
-ghost use Rattle.page.specs.Writing.{Weighed};
+ghost use Rattle.page.specs.Writing.{Pending};
 ghost use Rattle.page.specs.Carry.{Here, here, Ready};
 ghost use Rattle.page.specs.Turn.{turnOf, onAfter, asTurn};
 use crate::Answer;
 use crate::command;
+use crate::command::Part;
 use crate::decode;
 use crate::decode::Decoded;
 use crate::entry;
+use crate::read;
+use crate::write;
 use crate::write::Carried;
 use protocol::Format;
 use protocol::Refusal;
@@ -38,33 +43,62 @@ pub(crate) struct Turned {
     pub(crate) writer: Writer,
 }
 
-// What a command answered, entered into the log: the run goes on behind it, or stops.
-fn entered(log: &mut [u8], p: Progress, next: usize, c: Carried) -> Turned
-    requires { ⌜ (p .done < 18446744073709551615)
-        × ((o : Outcome) → c .answer ≡ Done o → p .written + length (entryOf o) ≤ length (now log)) ⌝ }
+fn onward(p: Progress, next: usize, written: usize, w: Writer) -> Turned
+    requires { ⌜ p .done < 18446744073709551615 ⌝ }
+    ensures { λ r. ⌜ r ≡ record {
+      verdict = Verdict.Fine;
+      progress = record { at = next; done = p .done + 1; written = written };
+      writer = w;
+    } ⌝ }
+{
+    Turned {
+        verdict: Verdict::Fine,
+        progress: Progress {
+            at: next,
+            done: p.done + 1,
+            written: written,
+        },
+        writer: w,
+    }
+}
+
+fn stopped(p: Progress, why: Refusal, w: Writer) -> Turned
+    ensures { λ r. ⌜ r ≡ record { verdict = Verdict.Stop why; progress = p; writer = w } ⌝ }
+{
+    Turned {
+        verdict: Verdict::Stop(why),
+        progress: p,
+        writer: w,
+    }
+}
+
+// What a command of the writer answered. It makes no entry, so the log is not looked at.
+fn wrote(p: Progress, next: usize, c: Carried) -> Turned
+    requires { ⌜ (p .done < 18446744073709551615) × ((o : Outcome) → c .answer ≡ Done o → o ≡ Nothing) ⌝ }
     ensures { λ r. ⌜ (r .writer ≡ c .writer)
-        × ((h : Here) → asTurn r h (now (log .exit)) (r .verdict) ≡ onAfter p next (now (log .entry)) h (c .answer)) ⌝ }
+        × ((h : Here) (log : List ℕ) → asTurn r h log (r .verdict) ≡ onAfter p next log h (c .answer)) ⌝ }
 {
     let a = c.answer;
     let after = c.writer;
     match a {
+        Answer::Done(_) => onward(p, next, p.written, after),
+        Answer::Refused(why) => stopped(p, why, after),
+    }
+}
+
+// What a command of a reader answered, entered into the log.
+fn entered(log: &mut [u8], p: Progress, next: usize, a: Answer, w: Writer) -> Turned
+    requires { ⌜ (p .done < 18446744073709551615)
+        × ((o : Outcome) → a ≡ Done o → p .written + length (entryOf o) ≤ length (now log)) ⌝ }
+    ensures { λ r. ⌜ (r .writer ≡ w)
+        × ((h : Here) → asTurn r h (now (log .exit)) (r .verdict) ≡ onAfter p next (now (log .entry)) h a) ⌝ }
+{
+    match a {
         Answer::Done(o) => {
             let end = entry::put(log, p.written, o);
-            Turned {
-                verdict: Verdict::Fine,
-                progress: Progress {
-                    at: next,
-                    done: p.done + 1,
-                    written: end,
-                },
-                writer: after,
-            }
+            onward(p, next, end, w)
         }
-        Answer::Refused(why) => Turned {
-            verdict: Verdict::Stop(why),
-            progress: p,
-            writer: after,
-        },
+        Answer::Refused(why) => stopped(p, why, w),
     }
 }
 
@@ -72,9 +106,7 @@ fn entered(log: &mut [u8], p: Progress, next: usize, c: Carried) -> Turned
 pub(crate) fn turn(
     format: Format,
     bases: &[u16],
-    weights: &[u64],
-    version_bases: &[u16],
-    version_weights: &[u64],
+    pending: &mut [u8; 8],
     page: &mut [u8],
     w: Writer,
     kinds: &mut [u8; 16],
@@ -91,7 +123,7 @@ pub(crate) fn turn(
     requires { ⌜ Ready (formOf (now bases) format) (now records)
         (here (now page) w (store (now kinds) (now allowed) (now finished) (now steps) (now digits)) (now buffers))
         × Lists16 (store (now kinds) (now allowed) (now finished) (now steps) (now digits))
-        × Weighed (formOf (now bases) format) (now weights) (now «version_bases») (now «version_weights»)
+        × Pending (formOf (now bases) format) w (now pending)
         × (p .at < length (now commands))
         × (p .done < length (now commands))
         × (p .written ≤ length (now log)) ⌝ }
@@ -103,33 +135,35 @@ pub(crate) fn turn(
         (here (now (page .entry)) w
         (store (now (kinds .entry)) (now (allowed .entry)) (now (finished .entry)) (now (steps .entry))
         (now (digits .entry))) (now (buffers .entry))) (now (log .entry)) ⌝ }
+    ensures { λ r. ⌜ Pending (formOf (now (bases .entry)) format) (r .writer) (now (pending .exit)) ⌝ }
 {
     let at = p.at;
     let Decoded::Is(x, next) = decode::decode(commands, at) else {
-        return Turned {
-            verdict: Verdict::Stop(Refusal::UnknownCommand),
-            progress: p,
-            writer: w,
-        };
+        return stopped(p, Refusal::UnknownCommand, w);
     };
-    let room = log.len() - p.written;
-    let c = command::carry(
-        format,
-        bases,
-        weights,
-        version_bases,
-        version_weights,
-        page,
-        w,
-        kinds,
-        allowed,
-        finished,
-        steps,
-        digits,
-        buffers,
-        records,
-        room,
-        x,
-    );
-    entered(log, p, next, c)
+    let part = command::whose(x);
+    match part {
+        Part::Writer(what) => {
+            let c = write::write(format, bases, pending, page, records, w, what);
+            wrote(p, next, c)
+        }
+        Part::Reader(who, what) => {
+            let room = log.len() - p.written;
+            let a = read::read(
+                format,
+                bases,
+                page,
+                who,
+                room,
+                kinds,
+                allowed,
+                finished,
+                steps,
+                digits,
+                buffers,
+                what,
+            );
+            entered(log, p, next, a, w)
+        }
+    }
 }

@@ -5,7 +5,7 @@ ghost use Rattle.protocol.specs.Form.{formOf};
 ghost use Rattle.protocol.specs.State.{busyWriting};
 ghost use Rattle.protocol.specs.Memory.{storedWriting};
 ghost use Rattle.protocol.specs.Load.{loadWriting};
-ghost use Rattle.page.specs.Writing.{Weighed, WriterReady, BeginReady};
+ghost use Rattle.page.specs.Writing.{Pending, WriterReady, BeginReady};
 ghost use Rattle.page.specs.Command.{began as begunHere, stepped, writerStepped, writes};
 use crate::Answer;
 use crate::command::Write;
@@ -31,7 +31,7 @@ fn refused(why: Refusal, w: Writer) -> Carried
     }
 }
 
-pub(crate) fn told(a: Answer, w: Writer) -> Carried
+fn told(a: Answer, w: Writer) -> Carried
     ensures { λ r. ⌜ r ≡ record { answer = a; writer = w } ⌝ }
 {
     Carried {
@@ -60,9 +60,7 @@ fn began(b: Begun, w: Writer) -> Carried
 fn writer_step(
     format: Format,
     bases: &[u16],
-    weights: &[u64],
-    version_bases: &[u16],
-    version_weights: &[u64],
+    pending: &[u8; 8],
     page: &mut [u8],
     records: &[u8],
     w: Writer,
@@ -70,24 +68,16 @@ fn writer_step(
     requires { ⌜ (busyWriting (loadWriting w) ≡ true → WriterReady (formOf (now bases) format) (now records)
         (now page) w)
         × (storedWriting (loadWriting w) ≡ w)
-        × Weighed (formOf (now bases) format) (now weights) (now «version_bases») (now «version_weights») ⌝ }
+        × Pending (formOf (now bases) format) w (now pending) ⌝ }
     ensures { λ r. ⌜ stepped (now (page .exit)) r
         ≡ writerStepped (formOf (now (bases .entry)) format) (now (records .entry)) (now (page .entry)) w ⌝ }
+    ensures { λ r. ⌜ Pending (formOf (now (bases .entry)) format) (r .writer) (now (pending .entry)) ⌝ }
 {
     let kind = w.kind;
     if kind == 0 {
         return refused(Refusal::NothingPending, w);
     }
-    let next = writing::step(
-        format,
-        bases,
-        weights,
-        version_bases,
-        version_weights,
-        page,
-        records,
-        w,
-    );
+    let next = writing::step(format, bases, pending, page, records, w);
     told(Answer::Done(Outcome::Nothing), next)
 }
 
@@ -95,9 +85,7 @@ fn writer_step(
 pub(crate) fn write(
     format: Format,
     bases: &[u16],
-    weights: &[u64],
-    version_bases: &[u16],
-    version_weights: &[u64],
+    pending: &mut [u8; 8],
     page: &mut [u8],
     records: &[u8],
     w: Writer,
@@ -105,22 +93,17 @@ pub(crate) fn write(
 ) -> Carried
     requires { ⌜ BeginReady (formOf (now bases) format) (now page) w
         × (busyWriting (loadWriting w) ≡ true → WriterReady (formOf (now bases) format) (now records) (now page) w)
-        × Weighed (formOf (now bases) format) (now weights) (now «version_bases») (now «version_weights») ⌝ }
+        × Pending (formOf (now bases) format) w (now pending) ⌝ }
     ensures { λ r. ⌜ stepped (now (page .exit)) r
         ≡ writes (formOf (now (bases .entry)) format) (now (records .entry)) (now (page .entry)) w x ⌝ }
+    ensures { λ r. ⌜ Pending (formOf (now (bases .entry)) format) (r .writer) (now (pending .exit)) ⌝ }
 {
     match x {
-        Write::Count(c) => began(writing::begin_count(format, bases, page, w, c), w),
-        Write::Record(i) => began(writing::begin_record(format, bases, page, records, w, i), w),
-        Write::Step => writer_step(
-            format,
-            bases,
-            weights,
-            version_bases,
-            version_weights,
-            page,
-            records,
+        Write::Count(c) => began(writing::begin_count(format, bases, pending, page, w, c), w),
+        Write::Record(i) => began(
+            writing::begin_record(format, bases, pending, page, records, w, i),
             w,
         ),
+        Write::Step => writer_step(format, bases, pending, page, records, w),
     }
 }

@@ -1,25 +1,27 @@
 // The writer's commands: how a write begins, and what each of its steps puts down.
 ghost use mathlib.Core.Path.{_≡_};
+ghost use mathlib.Core.List.{[]};
 ghost use mathlib.Core.Bool.{true};
-ghost use Prim.Native.Nat.{_+_, _<_};
-ghost use lib.ListN.{length, getD};
-ghost use Rattle.radix.specs.Digits.{digits};
-ghost use Rattle.radix.specs.Answers.{goodBases};
+ghost use Prim.Native.Nat.{_+_, _≤_, _<_};
+ghost use lib.ListN.{length, take};
+ghost use Rattle.radix.specs.Digits.{product, digits};
+ghost use Rattle.radix.specs.Answers.{into};
 ghost use Rattle.protocol.specs.Form.{formOf, versionBases, goodForm, countSteps, recordSteps};
 ghost use Rattle.protocol.specs.State.{resting as atRest};
 ghost use Rattle.protocol.specs.Step.{inRecords};
 ghost use Rattle.protocol.specs.Memory.{storedWriting};
 ghost use Rattle.protocol.specs.Load.{loadWriting};
-ghost use Rattle.page.specs.Writing.{Weights, Weighed, WriterReady, BeginReady, countPut, recordPut, wrote};
+ghost use Rattle.page.specs.Writing.{intoFirst, Pending, WriterReady, BeginReady, countPut, recordPut, wrote};
 ghost use Rattle.page.specs.Writing.{writingStep, beginCountOf, beginRecordOf, advanced};
+ghost use Rattle.page.specs.Command.{began};
 use protocol::Format;
 use protocol::Refusal;
 use protocol::Writer;
 use radix::Count;
 use radix::CountRead;
-use radix::Digit;
 use radix::Version;
 use radix::VersionRead;
+use radix::Written;
 
 // Where a step writes, and what.
 pub(crate) struct Put {
@@ -32,92 +34,95 @@ pub(crate) enum Begun {
     Refused(Refusal),
 }
 
-fn wide(x: u16) -> u64
-    ensures { λ r. ⌜ r ≡ x ⌝ }
+// The digits of a number, into the first places.
+fn count_digits(bases: &[u16], c: Count, out: &mut [u8]) -> Written
+    requires { ⌜ length (now bases) ≤ length (now out) ⌝ }
+    ensures { λ r. ⌜ into r (now (out .exit)) ≡ intoFirst (now (bases .entry)) (c .0) (now (out .entry)) ⌝ }
 {
-    x as u64
+    let m = bases.len();
+    radix::counts::write(bases, c, &mut out[..m])
 }
 
-// For each digit the product of the bases after it.
-pub(crate) fn weights(bases: &[u16]) -> [u64; 8]
-    requires { ⌜ goodBases (now bases) ≡ true ⌝ }
-    ensures { λ r. ⌜ (8 ≡ length r) × Weights (now (bases .entry)) r ⌝ }
+fn version_digits(format: Format, v: Version, out: &mut [u8]) -> Written
+    requires { ⌜ (format .q ≤ 4) × (format .q ≤ length (now out)) ⌝ }
+    ensures { λ r. ⌜ into r (now (out .exit)) ≡ intoFirst (versionBases (formOf [] format)) (v .0)
+        (now (out .entry)) ⌝ }
 {
-    let mut w = [1u64; 8];
-    let mut k = bases.len();
-    while 1 < k {
-        k = k - 1;
-        w[k - 1] = w[k] * wide(bases[k]);
+    let q = format.q;
+    radix::versions::write(format.base, q, v, &mut out[..q])
+}
+
+// The digits of a write that is pending: they are worked out once and not at each of its steps.
+pub(crate) fn pending(format: Format, bases: &[u16], w: Writer) -> [u8; 8]
+    requires { ⌜ (goodForm (formOf (now bases) format) ≡ true)
+        × (w .kind ≡ 1 → w .count .0 < product (now bases))
+        × (w .kind ≡ 2 → w .version .0 < product (versionBases (formOf (now bases) format))) ⌝ }
+    ensures { λ r. ⌜ Pending (formOf (now (bases .entry)) format) w r ⌝ }
+{
+    let mut out = [0u8; 8];
+    let kind = w.kind;
+    if kind == 1 {
+        count_digits(bases, Count(w.count.0), &mut out);
+        return out;
     }
-    w
-}
-
-fn digit_at(bases: &[u16], weights: &[u64], k: usize, x: u64) -> u8
-    requires { ⌜ (goodBases (now bases) ≡ true) × Weights (now bases) (now weights) × (length (now weights) ≡ 8) ×
-        (k < length (now bases)) ⌝ }
-    ensures { λ r. ⌜ r ≡ getD (digits (now (bases .entry)) x) k 0 ⌝ }
-{
-    (x / weights[k] % wide(bases[k])) as u8
+    if kind == 2 {
+        version_digits(format, Version(w.version.0), &mut out);
+        return out;
+    }
+    out
 }
 
 // c2 left to right, c1 right to left.
-fn count_put(format: Format, bases: &[u16], weights: &[u64], c: Count, k: usize) -> Put
-    requires { ⌜ (goodForm (formOf (now bases) format) ≡ true) × Weights (now bases) (now weights) ×
-        (length (now weights) ≡ 8) × (k < countSteps (formOf (now bases) format)) ⌝ }
-    ensures { λ r. ⌜ r ≡ countPut (formOf (now (bases .entry)) format) (c .0) k ⌝ }
+fn count_put(format: Format, bases: &[u16], pending: &[u8; 8], w: Writer) -> Put
+    requires { ⌜ (goodForm (formOf (now bases) format) ≡ true)
+        × (take (length (now bases)) (now pending) ≡ digits (now bases) (w .count .0))
+        × (w .steps < countSteps (formOf (now bases) format)) ⌝ }
+    ensures { λ r. ⌜ r ≡ countPut (formOf (now (bases .entry)) format) (w .count .0) (w .steps) ⌝ }
 {
     let m = bases.len();
+    let k = w.steps;
     if k < m {
         return Put {
             position: m + k,
-            digit: digit_at(bases, weights, k, c.0),
+            digit: pending[k],
         };
     }
     let j = m + m - 1 - k;
     Put {
         position: j,
-        digit: digit_at(bases, weights, j, c.0),
+        digit: pending[j],
     }
 }
 
 // v1 left to right, the bytes ascending, v2 right to left.
-fn record_put(
-    format: Format,
-    bases: &[u16],
-    version_bases: &[u16],
-    weights: &[u64],
-    records: &[u8],
-    v: Version,
-    index: usize,
-    k: usize,
-) -> Put
+fn record_put(format: Format, bases: &[u16], pending: &[u8; 8], records: &[u8], w: Writer) -> Put
     requires { ⌜ (goodForm (formOf (now bases) format) ≡ true)
-        × (now «version_bases» ≡ versionBases (formOf (now bases) format))
-        × Weights (now «version_bases») (now weights)
-        × (length (now weights) ≡ 8)
-        × (inRecords (formOf (now bases) format) (now records) index ≡ true)
-        × (k < recordSteps (formOf (now bases) format)) ⌝ }
-    ensures { λ r. ⌜ r ≡ recordPut (formOf (now (bases .entry)) format) (now (records .entry)) (v .0) index k ⌝ }
+        × (take (format .q) (now pending) ≡ digits (versionBases (formOf (now bases) format)) (w .version .0))
+        × (inRecords (formOf (now bases) format) (now records) (w .index) ≡ true)
+        × (w .steps < recordSteps (formOf (now bases) format)) ⌝ }
+    ensures { λ r. ⌜ r ≡ recordPut (formOf (now (bases .entry)) format) (now (records .entry)) (w .version .0)
+        (w .index) (w .steps) ⌝ }
 {
     let m = bases.len();
     let q = format.q;
     let n = format.n;
+    let k = w.steps;
     if k < q {
         return Put {
             position: m + m + k,
-            digit: digit_at(version_bases, weights, k, v.0 as u64),
+            digit: pending[k],
         };
     }
     if k < q + n {
         return Put {
             position: m + m + k,
-            digit: records[index * n + (k - q)],
+            digit: records[w.index * n + (k - q)],
         };
     }
     let j = q + n + q - 1 - k;
     Put {
         position: m + m + q + n + j,
-        digit: digit_at(version_bases, weights, j, v.0 as u64),
+        digit: pending[j],
     }
 }
 
@@ -155,53 +160,52 @@ fn onward(w: Writer, size: usize) -> Writer
 pub(crate) fn step(
     format: Format,
     bases: &[u16],
-    weights: &[u64],
-    version_bases: &[u16],
-    version_weights: &[u64],
+    pending: &[u8; 8],
     page: &mut [u8],
     records: &[u8],
     w: Writer,
 ) -> Writer
     requires { ⌜ WriterReady (formOf (now bases) format) (now records) (now page) w
-        × Weighed (formOf (now bases) format) (now weights) (now «version_bases») (now «version_weights») ⌝ }
+        × Pending (formOf (now bases) format) w (now pending) ⌝ }
     ensures { λ r. ⌜ wrote (now (page .exit)) r
         ≡ writingStep (formOf (now (bases .entry)) format) (now (records .entry)) (now (page .entry))
         (loadWriting w) ⌝ }
+    ensures { λ r. ⌜ Pending (formOf (now (bases .entry)) format) r (now (pending .entry)) ⌝ }
 {
     let m = bases.len();
     let kind = w.kind;
     if kind == 1 {
-        let p = count_put(format, bases, weights, Count(w.count.0), w.steps);
+        let p = count_put(format, bases, pending, w);
         let at = p.position;
         page[at] = p.digit;
         return onward(w, m + m);
     }
-    let p = record_put(
-        format,
-        bases,
-        version_bases,
-        version_weights,
-        records,
-        Version(w.version.0),
-        w.index,
-        w.steps,
-    );
+    let p = record_put(format, bases, pending, records, w);
     let at = p.position;
     page[at] = p.digit;
     onward(w, format.q + format.n + format.q)
 }
 
-// A count write begins: nothing is written yet.
-pub(crate) fn begin_count(format: Format, bases: &[u16], page: &[u8], w: Writer, c: Count) -> Begun
-    requires { ⌜ BeginReady (formOf (now bases) format) (now page) w ⌝ }
+// A count write begins: nothing is written yet. A refused one may have left its digits, but then nothing is pending.
+pub(crate) fn begin_count(
+    format: Format,
+    bases: &[u16],
+    pending: &mut [u8; 8],
+    page: &[u8],
+    w: Writer,
+    c: Count,
+) -> Begun
+    requires { ⌜ BeginReady (formOf (now bases) format) (now page) w
+        × Pending (formOf (now bases) format) w (now pending) ⌝ }
     ensures { λ r. ⌜ r ≡ beginCountOf (formOf (now (bases .entry)) format) (now (page .entry)) (loadWriting w) c ⌝ }
+    ensures { λ r. ⌜ Pending (formOf (now (bases .entry)) format) (began r w .writer) (now (pending .exit)) ⌝ }
 {
     let kind = w.kind;
     if kind != 0 {
         return Begun::Refused(Refusal::Busy);
     }
-    let first = radix::counts::digit(bases, 0, Count(c.0));
-    let Digit::Is(_) = first else {
+    let first = count_digits(bases, Count(c.0), pending);
+    let Written::Done = first else {
         return Begun::Refused(Refusal::CountTooLarge);
     };
     let m = bases.len();
@@ -226,14 +230,17 @@ pub(crate) fn begin_count(format: Format, bases: &[u16], page: &[u8], w: Writer,
 pub(crate) fn begin_record(
     format: Format,
     bases: &[u16],
+    pending: &mut [u8; 8],
     page: &[u8],
     records: &[u8],
     w: Writer,
     index: usize,
 ) -> Begun
-    requires { ⌜ BeginReady (formOf (now bases) format) (now page) w ⌝ }
+    requires { ⌜ BeginReady (formOf (now bases) format) (now page) w
+        × Pending (formOf (now bases) format) w (now pending) ⌝ }
     ensures { λ r. ⌜ r ≡ beginRecordOf (formOf (now (bases .entry)) format) (now (records .entry)) (now (page .entry))
         (loadWriting w) index ⌝ }
+    ensures { λ r. ⌜ Pending (formOf (now (bases .entry)) format) (began r w .writer) (now (pending .exit)) ⌝ }
 {
     let n = format.n;
     if records.len() / n <= index {
@@ -256,8 +263,7 @@ pub(crate) fn begin_record(
         return Begun::Refused(Refusal::VersionsExhausted);
     }
     let v = before + 1;
-    let top = radix::versions::digit(format.base, q, 0, Version(v));
-    let Digit::Is(_) = top else {
+    let Written::Done = version_digits(format, Version(v), pending) else {
         return Begun::Refused(Refusal::VersionsExhausted);
     };
     Begun::Now(Writer {

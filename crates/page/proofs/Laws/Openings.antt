@@ -1,22 +1,13 @@
 -- A page that is written from the left to the right, part by part.
 use mathlib.Core.Path.{_≡_, refl, ap, _∙_}
 use mathlib.Core.List.{List, [], _∷_, _++_, append-assoc, append-nil}
-use mathlib.Core.Bool.{true}
-use Prim.Native.Nat.{ℕ, _+_, _-_, _≤_, _<_}
+use Prim.Native.Nat.{ℕ, _+_, _-_, _≤_}
 use native.Mathlib.Nat.{zero-div, zero-mod}
 use native.Mathlib.Omega.{arith}
 use lib.ListN.{length, take, drop, replicate, length-replicate, length-append, length-take, length-drop}
 use lib.Seq.{length-take-le, take-at, drop-length}
-use borrow.Author.Tests.{eq-eqb, lt-ltb}
-use Rattle.radix.specs.Digits.{product, digits}
-use Rattle.radix.specs.Answers.{goodBases, digitsInto}
+use Rattle.radix.specs.Digits.{digits}
 use Rattle.page.specs.Entry.{overlay}
-
--- what a write of a number's digits leaves
-pub whole-digits :
-    (bs : List ℕ) (x : ℕ) (out : List ℕ) → goodBases bs ≡ true → length out ≡ length bs → x < product bs →
-    digitsInto bs x out .out ≡ digits bs x
-whole-digits bs x out g e h = rw (g, eq-eqb (length out) (length bs) e, lt-ltb x (product bs) h)
 
 -- all digits of zero are zero
 pub zero-digits : (bs : List ℕ) → digits bs 0 ≡ replicate (length bs) 0

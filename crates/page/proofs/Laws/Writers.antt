@@ -1,6 +1,6 @@
 -- Laws that the proofs of writing cite.
-pub mod Weights
 pub mod Puts
+pub mod Pending
 pub mod Writers
 pub mod CountBegins
 pub mod RecordBegins

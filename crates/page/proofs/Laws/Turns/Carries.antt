@@ -1,4 +1,5 @@
--- One command: what the writer's part and the readers' part leave is what the command does to what is lent.
+-- One command: what a command of the writer leaves, and what one of a reader leaves, is what the command does to what
+-- is lent.
 use mathlib.Core.Path.{_≡_, sym, ap, _∙_}
 use mathlib.Core.List.{List}
 use Prim.Native.Nat.{ℕ}
@@ -11,8 +12,8 @@ use Rattle.page.specs.declared.command.Write.{Write}
 use Rattle.page.specs.declared.write.Carried.{Carried}
 use Rattle.page.specs.Store.{Store, Lists16}
 use Rattle.page.specs.Reader.{told}
-use Rattle.page.specs.Command.{ofReader, ofWriter, commandOf, stepped, writes, reads}
-use Rattle.page.specs.Carry.{Here, here, after, carryHere, Ready}
+use Rattle.page.specs.Command.{commandOf, stepped, writes, reads}
+use Rattle.page.specs.Carry.{Here, carryHere, Ready}
 use Rattle.page.proofs.Carry.Meant.{onStepped, onTold}
 use Rattle.page.proofs.Carry.Reader.{carry-reads}
 use Rattle.page.proofs.Carry.Writer.{carry-writes}
@@ -27,11 +28,10 @@ module _
     {v : Part}
     {x : Command}
     (e : commandOf v ≡ x)
-    {r : Carried}
   where
     pub by-writer :
-        {y : Write} {page : List ℕ} → v ≡ Part.Writer y → stepped page r ≡ writes F S (h .page) (h .writer) y →
-        onStepped h (stepped page r) ≡ carryHere F S room h x
+        {y : Write} {page : List ℕ} {r : Carried} → v ≡ Part.Writer y →
+        stepped page r ≡ writes F S (h .page) (h .writer) y → onStepped h (stepped page r) ≡ carryHere F S room h x
     unfolding commandOf
     by-writer {y} is k =
         ap (onStepped h) k
@@ -41,11 +41,9 @@ module _
     pub by-reader :
         {who : ℕ} {y : Read} {a : Answer} {t : Store} {buffers : List ℕ} → v ≡ Part.Reader who y →
         told a t buffers ≡ reads F (h .page) (h .store) (h .buffers) who room y →
-        r ≡ record { answer = a; writer = h .writer } →
-        after (r .answer) (here (h .page) (r .writer) t buffers) ≡ carryHere F S room h x
+        onTold h (told a t buffers) ≡ carryHere F S room h x
     unfolding commandOf
-    by-reader {who} {y} {t = t} {buffers} is k o =
-        ap (λ (z : Carried). after (z .answer) (here (h .page) (z .writer) t buffers)) o
-        ∙ ap (onTold h) k
+    by-reader {who} {y} is k =
+        ap (onTold h) k
         ∙ sym (carry-reads F S room h ready lists who y)
         ∙ ap (carryHere F S room h) (sym (ap commandOf is) ∙ e)

@@ -3,6 +3,7 @@ use mathlib.Core.Path.{_≡_, refl, sym, ap, _∙_}
 use mathlib.Core.List.{List}
 use mathlib.Core.Bool.{Bool, true, false, cond}
 use Prim.Native.Nat.{ℕ, _+_, _-_, _≤_}
+use native.Mathlib.Nat.{add-zero}
 use native.Mathlib.Omega.{arith}
 use lib.Dec.{ltb}
 use lib.ListN.{length}
@@ -13,6 +14,7 @@ use Rattle.protocol.specs.Step.{Answer as Meant, refused, done, carry}
 use Rattle.protocol.specs.Load.{load}
 use Rattle.protocol.specs.declared.Command.{Command}
 use Rattle.protocol.specs.declared.Outcome.{Outcome}
+use Rattle.protocol.specs.declared.Outcome.the-variants.{Nothing}
 use Rattle.protocol.specs.declared.Refusal.{Refusal}
 use Rattle.protocol.specs.declared.Refusal.the-variants.{UnknownCommand, LogFull}
 use Rattle.protocol.specs.declared.Writer.{Writer}
@@ -27,6 +29,7 @@ use Rattle.page.specs.Decode.{decodeAt}
 use Rattle.page.specs.Entry.{overlay, Added, added}
 use Rattle.page.specs.Carry.{Here, here, memory, holding, After, after, onAnswer, carryHere, RanHere, ranHere}
 use Rattle.page.specs.Turn.{Turn, onAfter, onDecoded, turnOf, asTurn}
+use Rattle.page.proofs.Laws.Entries.Overlays.{overlay-none}
 
 -- what is done has room in the log
 answer-fits :
@@ -52,26 +55,57 @@ pub carry-fits :
 carry-fits F S room h x {a} {h′} {o} e d =
     answer-fits F room h (carry F S (load F (memory (F .readers) h)) x) o (sym (ap (λ (y : After). y .answer) e) ∙ d)
 
--- the answer's entry
-module _ (p : Progress) (next : ℕ) (log : List ℕ) (h : Here) {a : Answer} where
-  pub entered-refused : {why : Refusal} → a ≡ Refused why → Turn.stops why h log ≡ onAfter p next log h a
-  unfolding onAfter
-  entered-refused w = sym (ap (onAfter p next log h) w)
+-- no entry at all
+no-entry : (log : List ℕ) (at : ℕ) → added log at ≡ added (overlay log at (entry Nothing)) (at + length (entry Nothing))
+unfolding entry
+no-entry log at = λ i. added (sym (overlay-none log at) i) (sym (add-zero at) i)
 
-  pub entered-done :
-      {o : Outcome} {log′ : List ℕ} {end : ℕ} → a ≡ Done o →
-      added log′ end ≡ added (overlay log (p .written) (entry o)) (p .written + length (entry o)) →
-      Turn.goes (record { at = next; done = p .done + 1; written = end }) h log′ ≡ onAfter p next log h a
-  unfolding onAfter
-  entered-done w put =
-      ap (λ (y : Added). Turn.goes (record { at = next; done = p .done + 1; written = y .at }) h (y .log)) put
-      ∙ sym (ap (onAfter p next log h) w)
+-- the answer's entry, and how the run goes on
+module _ (p : Progress) (next : ℕ) (log : List ℕ) (h : Here) {a : Answer} {r : Turned} {w : Writer} where
+  pub entered-refused :
+      {why : Refusal} → a ≡ Refused why → r ≡ record { verdict = Verdict.Stop why; progress = p; writer = w } →
+      asTurn r h log (r .verdict) ≡ onAfter p next log h a
+  unfolding onAfter asTurn
+  entered-refused is e = ap (λ (y : Turned). asTurn y h log (y .verdict)) e ∙ sym (ap (onAfter p next log h) is)
+
+  module _ {o : Outcome} (is : a ≡ Done o) where
+    pub entered-done :
+        {log′ : List ℕ} {end : ℕ} →
+        added log′ end ≡ added (overlay log (p .written) (entry o)) (p .written + length (entry o)) →
+        r ≡ record {
+          verdict = Verdict.Fine;
+          progress = record { at = next; done = p .done + 1; written = end };
+          writer = w;
+        } →
+        asTurn r h log′ (r .verdict) ≡ onAfter p next log h a
+    unfolding onAfter asTurn
+    entered-done {log′} put e =
+        ap (λ (y : Turned). asTurn y h log′ (y .verdict)) e
+        ∙ ap (λ (y : Added). Turn.goes (record { at = next; done = p .done + 1; written = y .at }) h (y .log)) put
+        ∙ sym (ap (onAfter p next log h) is)
+
+    pub entered-nothing :
+        o ≡ Nothing →
+        r ≡ record {
+          verdict = Verdict.Fine;
+          progress = record { at = next; done = p .done + 1; written = p .written };
+          writer = w;
+        } →
+        asTurn r h log (r .verdict) ≡ onAfter p next log h a
+    entered-nothing none =
+        entered-done
+        (no-entry log (p .written)
+        ∙ ap (λ (y : Outcome). added (overlay log (p .written) (entry y)) (p .written + length (entry y))) (sym none))
 
 module _ (F : Form) (S s : List ℕ) (p : Progress) (h : Here) (log : List ℕ) {d : Decoded} where
   pub unknown :
-      d ≡ decodeAt s (p .at) → d ≡ Decoded.Unknown → Turn.stops UnknownCommand h log ≡ turnOf F S s p h log
-  unfolding onDecoded
-  unknown e is = sym (ap (onDecoded F S p h log) (sym e ∙ is))
+      {r : Turned} → d ≡ decodeAt s (p .at) → d ≡ Decoded.Unknown →
+      r ≡ record { verdict = Verdict.Stop UnknownCommand; progress = p; writer = h .writer } →
+      asTurn r (here (h .page) (r .writer) (h .store) (h .buffers)) log (r .verdict) ≡ turnOf F S s p h log
+  unfolding onDecoded asTurn
+  unknown e is k =
+      ap (λ (y : Turned). asTurn y (here (h .page) (y .writer) (h .store) (h .buffers)) log (y .verdict)) k
+      ∙ sym (ap (onDecoded F S p h log) (sym e ∙ is))
 
   module _
       {x : Command}
@@ -91,7 +125,8 @@ module _ (F : Form) (S s : List ℕ) (p : Progress) (h : Here) (log : List ℕ) 
       pub turn-entered :
           {w : Writer} → w ≡ h′ .writer →
           onAfter p next log (here (h′ .page) w (h′ .store) (h′ .buffers)) a ≡ turnOf F S s p h log
-      turn-entered w = ap (λ (y : Writer). onAfter p next log (here (h′ .page) y (h′ .store) (h′ .buffers)) a) w ∙ turned
+      turn-entered w =
+          ap (λ (y : Writer). onAfter p next log (here (h′ .page) y (h′ .store) (h′ .buffers)) a) w ∙ turned
 
 -- THE RUN, from what a turn hands back
 

@@ -4,12 +4,11 @@ use mathlib.Core.List.{List}
 use mathlib.Core.Bool.{true, false}
 use Prim.Native.Nat.{ℕ, suc, _+_, _-_, _/_, _≤_, _<_}
 use native.Mathlib.Omega.{arith}
-use lib.ListN.{length, take, drop, length-replicate}
+use lib.ListN.{length, take, drop}
 use borrow.Author.Tests.{lt-ltb, le-ltb, le-leb, lt-leb}
 use Rattle.radix.specs.Digits.{product, value, valid}
-use Rattle.radix.specs.Answers.{asVersion, digitOf, versionDigit, versionValue}
+use Rattle.radix.specs.Answers.{asVersion, versionValue}
 use Rattle.radix.specs.declared.Version.{Version}
-use Rattle.radix.specs.declared.Digit.{Digit}
 use Rattle.radix.specs.declared.Fault.{Fault}
 use Rattle.radix.specs.declared.VersionRead.{VersionRead}
 use Rattle.protocol.specs.Form.{Form, m, versionBases}
@@ -26,7 +25,7 @@ use Rattle.page.specs.declared.writing.Begun.{Begun}
 use Rattle.page.specs.Writing.{beginRecordOf, BeginReady}
 use Rattle.page.proofs.Common.Forms.{good-versions}
 use Rattle.page.proofs.Common.Looks.{lent-part}
-use Rattle.page.proofs.Common.Answers.{is-small, is-large, version-is, version-first}
+use Rattle.page.proofs.Common.Answers.{version-is}
 use Rattle.page.proofs.Common.Records.{index-whole}
 use Rattle.page.proofs.Laws.Writers.Writers.{at-rest, at-work}
 
@@ -82,10 +81,10 @@ module _ (F : Form) (S page : List ℕ) (w : Writer) (i : ℕ) (ready : BeginRea
               let p : n ≡ record { 0 = value (versionBases F) (look page (v1 F)) } = cc (read-here g) in
               ap (λ (n : Version). n .0) p
 
-          exhausted : product (versionBases F) ≤ n .0 + 1
+          pub record-large : product (versionBases F) ≤ n .0 + 1
               → Begun.Refused VersionsExhausted ≡ beginRecordOf F S page (loadWriting w) i
           unfolding beginRecordOf
-          exhausted l =
+          record-large l =
               rw (
                 there F S i some-bytes h,
                 at-rest w (ready .kept) rest,
@@ -97,42 +96,23 @@ module _ (F : Form) (S page : List ℕ) (w : Writer) (i : ℕ) (ready : BeginRea
               → Begun.Refused VersionsExhausted ≡ beginRecordOf F S page (loadWriting w) i
           record-last e =
               let r = in-range F (ready .good) in
-              exhausted (omega arith)
+              record-large (omega arith)
 
-          module _ {d : Digit} (e : d ≡ versionDigit (F .base) (F .q) 0 (n .0 + 1)) where
-            some-digits : 0 < length (versionBases F)
-            some-digits =
-                let r = in-range F (ready .good) in
-                omega (arith, length-replicate (F .q) (F .base))
-
-            digit-is : d ≡ digitOf (versionBases F) 0 (n .0 + 1)
-            digit-is =
-                e
-                ∙ version-first (F .base) (F .q) (in-range F (ready .good) .versions .1) (n .0 + 1)
-
-            pub record-large : {y : Fault} → d ≡ Digit.Refused y
-                → Begun.Refused VersionsExhausted ≡ beginRecordOf F S page (loadWriting w) i
-            record-large {y} f =
-                exhausted
-                (is-large (versionBases F) (n .0 + 1) (good-versions F (ready .good)) some-digits y (sym digit-is ∙ f))
-
-            pub record-begins : {x : ℕ} → d ≡ Digit.Is x
-                → Begun.Now (record {
-                  kind = 2;
-                  count = record { 0 = 0 };
-                  version = record { 0 = n .0 + 1 };
-                  index = i;
-                  steps = 0;
-                })
-                ≡ beginRecordOf F S page (loadWriting w) i
-            unfolding beginRecordOf storedWriting
-            record-begins {x} f =
-                let g = good-versions F (ready .good) in
-                let l = is-small (versionBases F) (n .0 + 1) g some-digits x (sym digit-is ∙ f) in
-                let v : n .0 + 1 ≡ suc (value (versionBases F) (look page (v1 F))) = omega (arith, last-is) in
-                rw (
-                  there F S i some-bytes h,
-                  at-rest w (ready .kept) rest,
-                  v,
-                  lt-leb (product (versionBases F)) (suc (value (versionBases F) (look page (v1 F)))) (omega arith),
-                )
+          pub record-begins : n .0 + 1 < product (versionBases F)
+              → Begun.Now (record {
+                kind = 2;
+                count = record { 0 = 0 };
+                version = record { 0 = n .0 + 1 };
+                index = i;
+                steps = 0;
+              })
+              ≡ beginRecordOf F S page (loadWriting w) i
+          unfolding beginRecordOf storedWriting
+          record-begins low =
+              let v : n .0 + 1 ≡ suc (value (versionBases F) (look page (v1 F))) = omega (arith, last-is) in
+              rw (
+                there F S i some-bytes h,
+                at-rest w (ready .kept) rest,
+                v,
+                lt-leb (product (versionBases F)) (suc (value (versionBases F) (look page (v1 F)))) (omega arith),
+              )

@@ -69,6 +69,9 @@ module _ (w : Writer) (kept : storedWriting (loadWriting w) ≡ w) where
       go (aCount c k) h = refl
       go (aRecord v i k) h = refl
 
+  pub record-kind : {v : Version} {i k : ℕ} → loadWriting w ≡ aRecord v i k → w .kind ≡ 2
+  record-kind e = sym kind-here ∙ ap kind-of e
+
 -- one step
 
 module _ (size : ℕ) where

@@ -11,7 +11,8 @@ use Rattle.protocol.specs.Form.{formOf, versionBases}
 use Rattle.protocol.specs.State.{opened}
 use Rattle.page.specs.Entry.{overlay}
 use Rattle.page.proofs.Common.Forms.{good-counts}
-use Rattle.page.proofs.Laws.Openings.{whole-digits, zero-digits, once, twice, second-length, filled}
+use Rattle.page.proofs.Common.Answers.{whole-digits}
+use Rattle.page.proofs.Laws.Openings.{zero-digits, once, twice, second-length, filled}
 use Rattle.page.proofs.opening.fill_page.Statement.{statement}
 use Rattle.page.proofs.opening.fill_page.Tie as tie
 

@@ -1,16 +1,11 @@
 -- The start's checks are those of the definition; past them the commands are carried out from the state that is lent.
 use borrow.Author.Needs.{needs}
 use mathlib.Core.Path.{_≡_, sym, _∙_}
-use native.Mathlib.Omega.{arith}
-use Prim.Native.Nat.{_≤_}
-use lib.ListN.{take, replicate, length-replicate}
-use Rattle.radix.proofs.Laws.Places.{take-replicate}
 use Rattle.protocol.specs.Form.{Form, formOf}
 use Rattle.protocol.specs.declared.Ending.the-variants.{Finished}
-use Rattle.protocol.proofs.InRange.{in-range}
 use Rattle.page.specs.Store.{store}
 use Rattle.page.specs.Carry.{Here, here, Ready, runHere, wentHere}
-use Rattle.page.proofs.Common.Forms.{good-counts, good-versions}
+use Rattle.page.proofs.Carry.Valid.{count-below, version-below}
 use Rattle.page.proofs.Loop.Begins.{run-refused-at, run-begins}
 use Rattle.page.proofs.Loop.Carries.{carries}
 use Rattle.page.proofs.runs.run.Statement.{statement}
@@ -48,16 +43,6 @@ begins c e =
 abbrev passed : tie.After-enum-told → tie.After-checked
 passed c = c .before .before
 
-few : (c : tie.After-enum-told) → start (passed c) .args .format .q ≤ 4
-few c =
-    let r = begins (passed c) (c .enum-told .given .1) .1 in
-    in-range (form-of (start (passed c))) (r .good) .versions .1
-
--- the first q of four equal bases are the version's
-shared : (c : tie.After-enum-told) → let f = start (passed c) .args .format in
-    take (f .q) (replicate 4 (f .base)) ≡ replicate (f .q) (f .base)
-shared c = let f = start (passed c) .args .format in take-replicate (f .q) 4 (f .base) (few c)
-
 checked-requires : tie.Need-checked-requires
 checked-requires c κs = search needs
 
@@ -88,45 +73,22 @@ returns c =
 enum-told : tie.Need-enum-told
 enum-told c = search needs
 
-array-share-prefix-all : tie.Need-array-share-prefix-all
-array-share-prefix-all c = omega (arith, few c)
+pending-requires : tie.Need-pending-requires
+pending-requires c κs =
+    let p = passed c in
+    let h = here-of (start p) in
+    let ready = begins p (c .enum-told .given .1) .1 in
+    let lists = p .checked .ensures .1 in
+    (ready .good, count-below _ _ h ready lists, version-below _ _ h ready lists)
 
-slice-aggregate-version-bases : tie.Need-slice-aggregate-version-bases
-slice-aggregate-version-bases c = rw (shared (c .before), length-replicate)
-
-weights-requires : tie.Need-weights-requires
-weights-requires c κs =
-    let e = c .before in
-    good-counts (form-of (start (passed e))) (begins (passed e) (e .enum-told .given .1) .1 .good)
-
-weights-requires-2 : tie.Need-weights-requires-2
-weights-requires-2 c κs =
-    let e = c .before .before in
-    rw (shared e) (good-versions (form-of (start (passed e))) (begins (passed e) (e .enum-told .given .1) .1 .good))
-
-slice-aggregate-run-all : tie.Need-slice-aggregate-run-all
-slice-aggregate-run-all c = search needs
-
-slice-aggregate-run-all-2 : tie.Need-slice-aggregate-run-all-2
-slice-aggregate-run-all-2 c = search needs
-
-abbrev made : tie.After-run-all-arg8 → tie.After-weights2
-made c = c .before .before .before .before .before .before .before .before .before .before
+abbrev made : tie.After-run-all-arg8 → tie.After-pending
+made c = c .before .before .before .before .before .before .before .before .before
 
 run-all-requires : tie.Need-run-all-requires
 run-all-requires c κs =
     let w = made c in
-    let e = w .before .before .before in (
-      begins (passed e) (e .enum-told .given .1) .1,
-      passed e .checked .ensures .1,
-      record {
-        counts = w .before .weights .ensures .1;
-        countsLong = sym (w .before .weights .ensures .0);
-        bases = shared e;
-        versions = rw (shared e) at (w .weights2 .ensures .1);
-        versionsLong = sym (w .weights2 .ensures .0);
-      },
-    )
+    let e = w .before in
+    (begins (passed e) (e .enum-told .given .1) .1, passed e .checked .ensures .1, w .pending .ensures)
 
 same-length-3 : tie.Need-same-length-3
 same-length-3 c = search needs
@@ -140,7 +102,7 @@ same-length-5 c = search needs
 returns-2 : tie.Need-returns-2
 returns-2 c =
     let r = c .before .before .before .before .before .before in
-    let e = made (r .before) .before .before .before in
+    let e = made (r .before) .before in
     (r .run-all .ensures ∙ sym (begins (passed e) (e .enum-told .given .1) .0), carries _ _ _ _)
 
 pub run-spec : {M : Type 1} → statement M
@@ -154,12 +116,7 @@ run-spec =
     same-length-2
     returns
     enum-told
-    array-share-prefix-all
-    slice-aggregate-version-bases
-    weights-requires
-    weights-requires-2
-    slice-aggregate-run-all
-    slice-aggregate-run-all-2
+    pending-requires
     run-all-requires
     same-length-3
     same-length-4

@@ -1,101 +1,97 @@
 -- Each return puts one part of the record: a digit of v1, a byte, or a digit of v2.
 use borrow.Author.Needs.{needs}
-use mathlib.Core.Path.{_≡_}
-use mathlib.Core.Bool.{true}
+use mathlib.Core.Path.{ap, _∙_}
 use Prim.Native.Nat.{suc, _+_, _-_, _*_}
 use native.Mathlib.Nat.{suc-mul}
 use native.Mathlib.Omega.{arith}
-use lib.ListN.{length, length-replicate}
+use lib.ListN.{length}
 use borrow.Author.Tests.{leb-true}
-use Rattle.radix.specs.Answers.{goodBases}
 use Rattle.protocol.specs.Form.{Form, formOf}
 use Rattle.protocol.proofs.InRange.{InRange, in-range}
-use Rattle.page.proofs.Common.Forms.{good-versions}
+use Rattle.page.specs.Writing.{put}
 use Rattle.page.proofs.Laws.Writers.Puts.{put-before, put-content, put-after, byte-within}
+use Rattle.page.proofs.Laws.Writers.Pending.{first-digit}
 use Rattle.page.proofs.writing.record_put.Statement.{statement}
 use Rattle.page.proofs.writing.record_put.Tie as tie
 
--- the form, its numbers, and the bases of a version
+-- the form, and its numbers
 abbrev form : tie.Start → Form
 form s = formOf (s .args .bases .now) (s .args .format)
 
 range-here : (s : tie.Start) → InRange (form s)
 range-here s = in-range (form s) (s .pre .0)
 
-bases-here : (s : tie.Start) → goodBases (s .args .version-bases .now) ≡ true
-bases-here s = rw (s .pre .1) (good-versions (form s) (s .pre .0))
+add-t12 : tie.Need-add-t12
+add-t12 c = search needs
 
-length-here : (s : tie.Start) → length (s .args .version-bases .now) ≡ s .args .format .q
-length-here s = rw (s .pre .1) (length-replicate (s .args .format .q) (s .args .format .base))
+add-t13 : tie.Need-add-t13
+add-t13 c = let r = range-here (c .before) in omega arith
 
-add-t14 : tie.Need-add-t14
-add-t14 c = search needs
-
-add-t15 : tie.Need-add-t15
-add-t15 c = let r = range-here (c .before .before .before .before .before) in omega arith
-
-cast-digit-at : tie.Need-cast-digit-at
-cast-digit-at c = search needs
-
-digit-at-requires : tie.Need-digit-at-requires
-digit-at-requires c κs =
-    let s = c .before .before .before .before .before .before in
-    (bases-here s, s .pre .2, s .pre .3, omega (arith, length-here s, c .before .if1 .taken))
+element-copy-out-t16 : tie.Need-element-copy-out-t16
+element-copy-out-t16 c = omega (arith, range-here (c .before) .versions, c .if1 .taken)
 
 returns : tie.Need-returns
 returns c =
-    let s = c .before .before .before .before .before .before .before in
-    rw (c .digit-at .ensures, s .pre .1)
-    (put-before (form s) (s .args .records .now) (s .args .v .0) (s .args .index) (s .args .k) (s .pre .4)
-    (c .before .before .if1 .taken))
+    let s = c .before .before in
+    let w = s .args .w in
+    let m = length (s .args .bases .now) in
+    let low = c .before .if1 .taken in
+    ap (put (m + m + w .steps)) (first-digit (s .args .format .q) (s .args .pending .now) _ (w .steps) (s .pre .1) low)
+    ∙ put-before (form s) (s .args .records .now) (w .version .0) (w .index) (w .steps) (s .pre .2) low
 
 add-if2 : tie.Need-add-if2
-add-if2 c = let r = range-here (c .before .before .before .before .before) in omega arith
+add-if2 c = let r = range-here (c .before) in omega arith
+
+add-t18 : tie.Need-add-t18
+add-t18 c = search needs
 
 add-t19 : tie.Need-add-t19
-add-t19 c = search needs
+add-t19 c = let r = range-here (c .before .before) in omega arith
 
-add-t20 : tie.Need-add-t20
-add-t20 c = let r = range-here (c .before .before .before .before .before .before) in omega arith
-
-mul-t21 : tie.Need-mul-t21
-mul-t21 c =
-    let s = c .before .before .before .before .before .before in
+mul-t20 : tie.Need-mul-t20
+mul-t20 c =
+    let s = c .before .before .before in
     let n = s .args .format .n in
     omega (
       arith,
-      leb-true (suc (s .args .index) * n) (length (s .args .records .now)) (s .pre .4),
-      suc-mul (s .args .index) n,
+      leb-true (suc (s .args .w .index) * n) (length (s .args .records .now)) (s .pre .2),
+      suc-mul (s .args .w .index) n,
       s .good,
     )
 
-add-t23 : tie.Need-add-t23
-add-t23 c =
-    let s = c .before .before .before .before .before .before in
+add-t22 : tie.Need-add-t22
+add-t22 c =
+    let t = c .before in
+    let s = t .before .before in
+    let w = s .args .w in
     omega (
       arith,
-      byte-within (form s) (s .args .records .now) (s .args .v .0) (s .args .index) (s .args .k) (s .pre .4)
-          (c .before .if1 .left) (c .if2 .taken),
+      byte-within (form s) (s .args .records .now) (w .version .0) (w .index) (w .steps) (s .pre .2)
+          (t .before .if1 .left) (t .if2 .taken),
       s .good,
     )
 
-shared-slice-read-t25 : tie.Need-shared-slice-read-t25
-shared-slice-read-t25 c =
-    let s = c .before .before .before .before .before .before .before in
-    byte-within (form s) (s .args .records .now) (s .args .v .0) (s .args .index) (s .args .k) (s .pre .4)
-    (c .before .before .if1 .left) (c .before .if2 .taken)
+shared-slice-read-t24 : tie.Need-shared-slice-read-t24
+shared-slice-read-t24 c =
+    let t = c .before .before in
+    let s = t .before .before in
+    let w = s .args .w in
+    byte-within (form s) (s .args .records .now) (w .version .0) (w .index) (w .steps) (s .pre .2)
+    (t .before .if1 .left) (t .if2 .taken)
 
 returns-2 : tie.Need-returns-2
 returns-2 c =
-    let s = c .before .before .before .before .before .before .before in
-    put-content (form s) (s .args .records .now) (s .args .v .0) (s .args .index) (s .args .k) (s .pre .4)
-    (c .before .before .if1 .left) (c .before .if2 .taken)
+    let t = c .before .before in
+    let s = t .before .before in
+    let w = s .args .w in
+    put-content (form s) (s .args .records .now) (w .version .0) (w .index) (w .steps) (s .pre .2)
+    (t .before .if1 .left) (t .if2 .taken)
 
 add-j : tie.Need-add-j
 add-j c = search needs
 
 add-j-2 : tie.Need-add-j-2
-add-j-2 c = let r = range-here (c .before .before .before .before .before .before) in omega arith
+add-j-2 c = let r = range-here (c .before .before) in omega arith
 
 sub-j : tie.Need-sub-j
 sub-j c = search needs
@@ -103,59 +99,56 @@ sub-j c = search needs
 sub-j-2 : tie.Need-sub-j-2
 sub-j-2 c = search needs
 
-add-t18 : tie.Need-add-t18
-add-t18 c = search needs
-
-add-t27 : tie.Need-add-t27
-add-t27 c = let r = range-here (c .before .before .before .before .before .before) in omega arith
+add-t17 : tie.Need-add-t17
+add-t17 c = search needs
 
 add-t26 : tie.Need-add-t26
-add-t26 c = let r = range-here (c .before .before .before .before .before .before) in omega arith
+add-t26 c = let r = range-here (c .before .before) in omega arith
 
-add-t28 : tie.Need-add-t28
-add-t28 c = let r = range-here (c .before .before .before .before .before .before) in omega arith
+add-t25 : tie.Need-add-t25
+add-t25 c = let r = range-here (c .before .before) in omega arith
 
-cast-digit-at-2 : tie.Need-cast-digit-at-2
-cast-digit-at-2 c = search needs
+add-t27 : tie.Need-add-t27
+add-t27 c = let r = range-here (c .before .before) in omega arith
 
-digit-at-requires-2 : tie.Need-digit-at-requires-2
-digit-at-requires-2 c κs =
-    let s = c .before .before .before .before .before .before .before in
-    (bases-here s, s .pre .2, s .pre .3, omega (arith, length-here s, range-here s .versions, c .before .if2 .left))
+element-copy-out-t30 : tie.Need-element-copy-out-t30
+element-copy-out-t30 c = omega (arith, range-here (c .before .before) .versions, c .if2 .left)
 
 returns-3 : tie.Need-returns-3
 returns-3 c =
-    let s = c .before .before .before .before .before .before .before .before in
+    let s = c .before .before .before in
     let f = s .args .format in
-    rw (c .digit-at2 .ensures, s .pre .1)
-    (put-after (form s) (s .args .records .now) (s .args .v .0) (s .args .index) (s .args .k) (s .pre .4)
-    (f .q + f .n + f .q - 1 - s .args .k) (c .before .before .if2 .left)
-    (omega (arith, s .pre .5, range-here s .versions)))
+    let w = s .args .w in
+    let m = length (s .args .bases .now) in
+    let j = f .q + f .n + f .q - 1 - w .steps in
+    let high = c .before .if2 .left in
+    ap (put (m + m + f .q + f .n + j))
+    (first-digit (f .q) (s .args .pending .now) _ j (s .pre .1) (omega (arith, high, s .pre .3)))
+    ∙ put-after (form s) (s .args .records .now) (w .version .0) (w .index) (w .steps) (s .pre .2) j high
+    (omega (arith, s .pre .3, range-here s .versions))
 
 pub record-put-spec : {M : Type 1} → statement M
 record-put-spec =
     tie.close
     (tie.spec
-    add-t14
-    add-t15
-    cast-digit-at
-    digit-at-requires
+    add-t12
+    add-t13
+    element-copy-out-t16
     returns
     add-if2
+    add-t18
     add-t19
-    add-t20
-    mul-t21
-    add-t23
-    shared-slice-read-t25
+    mul-t20
+    add-t22
+    shared-slice-read-t24
     returns-2
     add-j
     add-j-2
     sub-j
     sub-j-2
-    add-t18
-    add-t27
+    add-t17
     add-t26
-    add-t28
-    cast-digit-at-2
-    digit-at-requires-2
+    add-t25
+    add-t27
+    element-copy-out-t30
     returns-3)
