@@ -1,16 +1,21 @@
 -- The tests of a run's start, as the code takes them one by one. proofs/ shows that together they are the protocol's.
 use mathlib.Core.List.{List}
-use mathlib.Core.Bool.{Bool, true, _&&_, cond}
-use Prim.Native.Nat.{ℕ, suc, _+_, _*_, _-_, min}
+use mathlib.Core.Bool.{Bool, _&&_, cond}
+use Prim.Native.Nat.{ℕ, zero, suc, _+_, _*_, _-_, min}
 use lib.Dec.{eqb, ltb, leb}
-use lib.ListN.{length, getD, take, drop}
+use lib.ListN.{length, getD}
 use Rattle.radix.specs.Digits.{product}
 use Rattle.protocol.specs.Lists.{every, range}
-use Rattle.protocol.specs.Form.{Form, m, versionBases, countSteps, recordSteps}
+use Rattle.protocol.specs.Form.{Form, versionBases, countSteps, recordSteps}
 use Rattle.protocol.specs.Step.{inRecords}
 use Rattle.protocol.specs.Allowed.{versionDigits}
 use Rattle.protocol.specs.declared.Writer.{Writer}
 use Rattle.page.specs.Store.{Store}
+
+-- the sum of n digits from a place on
+unfoldable pub sumOf : List ℕ → (at n : ℕ) → ℕ
+sumOf digits at zero = 0
+sumOf digits at (suc n) = getD digits at 0 + sumOf digits (suc at) n
 
 -- of eight digits from a place on, those from `low` up to `high` are below their bases, and the others are zero
 unfoldable pub eightOk : (bases : List ℕ) → List ℕ → (at low high : ℕ) → Bool

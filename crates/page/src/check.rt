@@ -11,14 +11,12 @@ ghost use Rattle.protocol.specs.Form.{formOf, versionBases, goodForm, countStep
 ghost use Rattle.protocol.specs.Step.{inRecords};
 ghost use Rattle.protocol.specs.Allowed.{allowedPage, versionDigits};
 ghost use Rattle.page.specs.Store.{store};
-ghost use Rattle.page.specs.Check.{eightOk, gatheredOk, writerOk, readerOk, readersOk};
+ghost use Rattle.page.specs.Check.{sumOf, eightOk, gatheredOk, writerOk, readerOk, readersOk};
 use protocol::Format;
 use protocol::Writer;
 use radix::Count;
-use radix::CountRead;
 use radix::Digit;
 use radix::Version;
-use radix::VersionRead;
 
 // Is every number of the format in its range?
 pub fn good_format(format: Format, bases: &[u16]) -> bool
@@ -27,10 +25,9 @@ pub fn good_format(format: Format, bases: &[u16]) -> bool
     if bases.len() < 1 {
         return false;
     }
-    let zero = radix::counts::digit(bases, 0, Count(0));
-    let Digit::Is(_) = zero else {
+    if !radix::counts::good(bases) {
         return false;
-    };
+    }
     if format.q < 1 || 4 < format.q {
         return false;
     }
@@ -98,11 +95,7 @@ fn copy_valid(bases: &[u16], page: &[u8], from: usize) -> bool
         (take (length (now (bases .entry))) (drop from (now (page .entry)))) ⌝ }
 {
     let end = from + bases.len();
-    let c = radix::counts::read(bases, &page[from..end]);
-    let CountRead::Is(_) = c else {
-        return false;
-    };
-    true
+    radix::counts::valid(bases, &page[from..end])
 }
 
 // Are a version's digits on the page below the base?
@@ -113,11 +106,8 @@ fn version_valid(format: Format, bases: &[u16], page: &[u8], from: usize) -> boo
 {
     let q = format.q;
     let end = from + q;
-    let v = radix::versions::read(format.base, q, &page[from..end]);
-    let VersionRead::Is(_) = v else {
-        return false;
-    };
-    true
+    let all = [format.base; 4];
+    radix::counts::valid(&all[..q], &page[from..end])
 }
 
 pub(crate) fn page_valid(format: Format, bases: &[u16], page: &[u8]) -> bool
@@ -178,26 +168,38 @@ pub(crate) fn writer_valid(format: Format, bases: &[u16], records: &[u8], w: Wri
     index_fits(format, bases, records, w.index)
 }
 
-// Of eight digits from a place on: those from low up to high are below their bases, and the others are zero.
-fn eight_valid(bases: &[u16], digits: &[u8], at: usize, low: usize, high: usize) -> bool
-    requires { ⌜ (length (now bases) ≤ 8) × (high ≤ length (now bases)) × (at + 8 ≤ length (now digits)) ⌝ }
-    ensures { λ r. ⌜ r ≡ eightOk (now (bases .entry)) (now (digits .entry)) at low high ⌝ }
+// The sum of eight digits from a place on.
+fn sum_of_eight(digits: &[u8], at: usize) -> u16
+    requires { ⌜ at + 8 ≤ length (now digits) ⌝ }
+    ensures { λ r. ⌜ r ≡ sumOf (now (digits .entry)) at 8 ⌝ }
 {
+    let mut sum: u16 = 0;
     let mut p: usize = 0;
     while p < 8 {
-        let d = digits[at + p] as u16;
-        if low <= p && p < high {
-            if bases[p] <= d {
-                return false;
-            }
-        } else {
-            if d != 0 {
-                return false;
-            }
-        }
+        sum = sum + digits[at + p] as u16;
         p = p + 1;
     }
-    true
+    sum
+}
+
+// Of eight digits from a place on: those from low up to high are below their bases, and the others are zero.
+// The others are zero if nothing of the sum is left without those between: so no digit is tested for its place.
+fn eight_valid(bases: &[u16], digits: &[u8], at: usize, low: usize, high: usize) -> bool
+    requires { ⌜ (length (now bases) ≤ 8) × (low ≤ high) × (high ≤ length (now bases)) ×
+        (at + 8 ≤ length (now digits)) ⌝ }
+    ensures { λ r. ⌜ r ≡ eightOk (now (bases .entry)) (now (digits .entry)) at low high ⌝ }
+{
+    let mut left = sum_of_eight(digits, at);
+    let mut p = low;
+    while p < high {
+        let d = digits[at + p] as u16;
+        if bases[p] <= d {
+            return false;
+        }
+        left = left - d;
+        p = p + 1;
+    }
+    left == 0
 }
 
 // The sixteen digits of reader i, of which g are gathered.

@@ -1,12 +1,30 @@
 // Counts and their digits, over the bases that are lent.
 ghost use mathlib.Core.Path.{_≡_};
-ghost use Rattle.radix.specs.Answers.{digitOf, into, digitsInto, valueOf, asCount};
+ghost use Rattle.radix.specs.Digits.{valid};
+ghost use Rattle.radix.specs.Answers.{goodBases, digitOf, into, digitsInto, valueOf, asCount};
 use crate::Count;
 use crate::CountRead;
 use crate::Digit;
 use crate::Number;
 use crate::Written;
 use crate::mixed;
+
+// Are there at most eight bases, each from 2 to 256?
+pub fn good(bases: &[u16]) -> bool
+    ensures { λ r. ⌜ r ≡ goodBases (now (bases .entry)) ⌝ }
+{
+    mixed::good(bases)
+}
+
+// Are there as many digits as bases, each below its base?
+pub fn valid(bases: &[u16], digits: &[u8]) -> bool
+    ensures { λ r. ⌜ r ≡ valid (now (bases .entry)) (now (digits .entry)) ⌝ }
+{
+    if digits.len() != bases.len() {
+        return false;
+    }
+    mixed::below(bases, digits)
+}
 
 // Digit k of a count, from the left, from 0.
 pub fn digit(bases: &[u16], k: usize, c: Count) -> Digit

@@ -23,8 +23,6 @@ use Rattle.radix.specs.declared.Written.the-variants.{Done}
 use Rattle.radix.specs.declared.CountRead.{CountRead}
 use Rattle.radix.specs.declared.VersionRead.{VersionRead}
 use Rattle.radix.specs.declared.Fault.the-variants.{TooLarge}
-use Rattle.radix.proofs.Laws.Bases.{each}
-use Rattle.radix.proofs.Laws.Products.{good-pos}
 use Rattle.radix.proofs.Theorems.RoundTrip.{valid-sound, length-valid}
 
 abbrev pub isDigit : Digit → Bool
@@ -34,14 +32,6 @@ isDigit (Digit.Refused why) = false
 abbrev pub isWritten : Written → Bool
 isWritten Done = true
 isWritten (Written.Refused why) = false
-
-abbrev pub isCount : CountRead → Bool
-isCount (CountRead.Is c) = true
-isCount (CountRead.Refused why) = false
-
-abbrev pub isVersion : VersionRead → Bool
-isVersion (VersionRead.Is v) = true
-isVersion (VersionRead.Refused why) = false
 
 -- A DIGIT
 
@@ -53,14 +43,6 @@ digit-or false d = refl
 pub digit-below :
     (bs : List ℕ) (k x : ℕ) → goodBases bs ≡ true → k < length bs → isDigit (digitOf bs k x) ≡ ltb x (product bs)
 digit-below bs k x g h = rw (g, lt-ltb k (length bs) h) (digit-or (ltb x (product bs)) _)
-
-good-or : (bs : List ℕ) (t : Bool) → goodBases bs ≡ t → 1 ≤ length bs → isDigit (digitOf bs 0 0) ≡ t
-good-or bs true g h = digit-below bs 0 0 g h ∙ lt-ltb 0 (product bs) (good-pos bs (each bs g))
-good-or bs false g h = rw g
-
--- a digit of zero exactly if the bases are good
-pub digit-good : (bs : List ℕ) → 1 ≤ length bs → isDigit (digitOf bs 0 0) ≡ goodBases bs
-digit-good bs h = good-or bs (goodBases bs) refl h
 
 -- ALL DIGITS
 
@@ -93,19 +75,3 @@ module _ (base q : ℕ) (few : q ≤ 4) where
   version-is good ds v =
       let bs = replicate q base in
       rw (le-leb q 4 few, good, eq-eqb (length ds) (length bs) (length-valid (valid-sound bs ds v)), v)
-
--- a count, or a version, exactly if the digits are below their bases
-module _ (bs ds : List ℕ) (g : goodBases bs ≡ true) (h : length ds ≡ length bs) where
-  count-or : (t : Bool) → valid bs ds ≡ t → isCount (asCount (valueOf bs ds)) ≡ t
-  count-or true v = rw (g, eq-eqb (length ds) (length bs) h, v)
-  count-or false v = rw (g, eq-eqb (length ds) (length bs) h, v)
-
-  pub count-valid : isCount (asCount (valueOf bs ds)) ≡ valid bs ds
-  count-valid = count-or (valid bs ds) refl
-
-  version-or : (t : Bool) → valid bs ds ≡ t → isVersion (asVersion (valueOf bs ds)) ≡ t
-  version-or true v = rw (g, eq-eqb (length ds) (length bs) h, v)
-  version-or false v = rw (g, eq-eqb (length ds) (length bs) h, v)
-
-  pub version-valid : isVersion (asVersion (valueOf bs ds)) ≡ valid bs ds
-  version-valid = version-or (valid bs ds) refl

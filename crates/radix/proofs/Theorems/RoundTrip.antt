@@ -106,6 +106,14 @@ valid-complete (more {b} {d} h v) = rw (lt-ltb d b h, valid-complete v)
 pub valid-iff : (bs ds : List ℕ) → (valid bs ds ≡ true) ↔ Valid bs ds
 valid-iff bs ds = (valid-sound bs ds, valid-complete)
 
+-- too few or too many digits fail the test
+pub valid-unequal : (bs ds : List ℕ) → (length ds ≡ length bs → ⊥) → valid bs ds ≡ false
+valid-unequal bs ds h = go (valid bs ds) refl
+  where
+    go : (t : Bool) → valid bs ds ≡ t → t ≡ false
+    go true e = absurd (h (length-valid (valid-sound bs ds e)))
+    go false e = refl
+
 -- one base throughout, and so bytes
 pub product-replicate : (k b : ℕ) → product (replicate k b) ≡ b ^ k
 product-replicate zero b = sym (pow-zero b)

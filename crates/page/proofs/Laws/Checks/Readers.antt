@@ -2,8 +2,7 @@
 use mathlib.Core.Path.{_≡_, refl, sym}
 use mathlib.Core.List.{List}
 use mathlib.Core.Bool.{Bool, true, false, cond}
-use Prim.Native.Nat.{ℕ, _+_, _-_, _≤_, _<_}
-use native.Mathlib.Omega.{arith}
+use Prim.Native.Nat.{ℕ, _≤_, _<_}
 use lib.Dec.{eqb, leb}
 use lib.ListN.{getD}
 use borrow.Author.Tests.{lt-ltb, le-ltb, eq-eqb, ne-eqb}
@@ -12,17 +11,6 @@ use Rattle.protocol.specs.Allowed.{versionDigits}
 use Rattle.page.specs.Store.{Store}
 use Rattle.page.specs.Check.{gatheredOk, readerOk}
 use Rattle.page.proofs.Common.Tests.{not-below, is-below}
-
--- digits of versions that an attempt has gathered: in the first version, in the bytes, in the second version
-module _ (F : Form) (s : ℕ) where
-  pub digits-first : s < F .q → versionDigits F s ≡ s
-  digits-first h = omega arith
-
-  pub digits-bytes : F .q ≤ s → s < F .q + F .n → versionDigits F s ≡ F .q
-  digits-bytes h g = omega arith
-
-  pub digits-second : F .q + F .n ≤ s → versionDigits F s ≡ s - F .n
-  digits-second h = omega arith
 
 module _ (F : Form) (t : Store) (i : ℕ) where
   abbrev kind : ℕ

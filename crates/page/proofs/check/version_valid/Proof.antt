@@ -1,75 +1,58 @@
--- With a good form a version of q digits is refused only if a digit is not below the base.
-use borrow.Author.Tests.{le-leb}
+-- The first q of four equal bases are those of the version, and the digits lent are its own.
 use borrow.Author.Needs.{needs}
-use mathlib.Core.Path.{_≡_, sym, ap, _∙_}
+use mathlib.Core.Path.{_≡_}
 use Prim.Native.Nat.{_+_, _-_, _≤_}
 use native.Mathlib.Omega.{arith}
-use lib.ListN.{length, take, drop, length-drop, length-replicate}
-use lib.Seq.{length-take-le}
-use Rattle.radix.specs.Digits.{valid}
-use Rattle.protocol.specs.Form.{formOf, versionBases}
+use lib.ListN.{length-replicate}
+use Rattle.radix.proofs.Laws.Places.{take-replicate}
 use Rattle.protocol.proofs.InRange.{in-range}
-use Rattle.page.proofs.Common.Forms.{good-versions}
-use Rattle.page.proofs.Common.Answers.{isVersion, version-valid}
 use Rattle.page.proofs.check.version_valid.Statement.{statement}
 use Rattle.page.proofs.check.version_valid.Tie as tie
+
+-- at most four digits
+few-here : (c : tie.Start) → c .args .format .q ≤ 4
+few-here c = in-range _ (c .pre .0) .versions .1
 
 add-end : tie.Need-add-end
 add-end c = search needs
 
-sub-read : tie.Need-sub-read
-sub-read c = search needs
+array-share-prefix-all : tie.Need-array-share-prefix-all
+array-share-prefix-all c = few-here (c .before .before)
 
-part-read-start : tie.Need-part-read-start
-part-read-start c = search needs
+slice-aggregate-valid : tie.Need-slice-aggregate-valid
+slice-aggregate-valid c =
+    let s = c .before .before .before in
+    let f = s .args .format in
+    rw (take-replicate (f .q) 4 (f .base) (few-here s), length-replicate)
 
-part-read-end : tie.Need-part-read-end
-part-read-end c = search needs
+sub-valid : tie.Need-sub-valid
+sub-valid c = search needs
 
-read-requires : tie.Need-read-requires
-read-requires c κs = search needs
+part-valid-start : tie.Need-part-valid-start
+part-valid-start c = search needs
 
-enum-told : tie.Need-enum-told
-enum-told c = search needs
+part-valid-end : tie.Need-part-valid-end
+part-valid-end c = search needs
 
-enum-told-2 : tie.Need-enum-told-2
-enum-told-2 c = search needs
-
--- whether the digits say a version
-valid-here : (c : tie.After-read) →
-    let a = c .before .before .before .before .args in
-    isVersion (c .read .result) ≡
-    valid (versionBases (formOf (a .bases .now) (a .format))) (take (a .format .q) (drop (a .from) (a .page .now)))
-valid-here c =
-    let s = c .before .before .before .before in
-    let F = formOf (s .args .bases .now) (s .args .format) in
-    let q = s .args .format .q in
-    let at = s .args .from in
-    let p = s .args .page .now in
-    let e : at + q - at ≡ q = omega arith in
-    let f : q ≤ length (drop at p) = omega (arith, length-drop at p) in
-    let l : length (take q (drop at p)) ≡ length (versionBases F) =
-    length-take-le q (drop at p) f ∙ sym (length-replicate q (F .base)) in
-    ap isVersion (c .read .ensures)
-    ∙ rw (e, le-leb q 4 (in-range F (s .pre .0) .versions .1))
-    (version-valid (versionBases F) (take q (drop at p)) (good-versions F (s .pre .0)) l)
+valid-requires : tie.Need-valid-requires
+valid-requires c κs = search needs
 
 returns : tie.Need-returns
-returns c = ap isVersion (sym (c .enum-told2 .given .1)) ∙ valid-here (c .before .before)
-
-returns-2 : tie.Need-returns-2
-returns-2 c = ap isVersion (sym (c .enum-told .given .1)) ∙ valid-here (c .before .before)
+returns c =
+    let s = c .before .before .before .before .before in
+    let f = s .args .format in
+    let e : s .args .from + f .q - s .args .from ≡ f .q = omega arith in
+    rw (e, take-replicate (f .q) 4 (f .base) (few-here s)) at (c .valid .ensures)
 
 pub version-valid-spec : {M : Type 1} → statement M
 version-valid-spec =
     tie.close
     (tie.spec
     add-end
-    sub-read
-    part-read-start
-    part-read-end
-    read-requires
-    enum-told
-    enum-told-2
-    returns
-    returns-2)
+    array-share-prefix-all
+    slice-aggregate-valid
+    sub-valid
+    part-valid-start
+    part-valid-end
+    valid-requires
+    returns)
