@@ -14,8 +14,8 @@ fn main() -> Result<(), Refusal> {
     };
     let mut page = Page::open(format, Count(11 * 60 + 57), b"opening.")?;
 
-    // Reader 0 reads the first copy, 11:57; then 12:04 is written; then the reader goes on with the second copy. It shows
-    // 12:00, which lies between both, though nobody wrote it.
+    // Reader 0 reads the first copy, 11:57; then 12:04 is written; then the reader goes on with the second copy. It
+    // shows 12:00, which lies between both, though nobody wrote it.
     let mut list = vec![
         BeginCountRead(0),
         ReaderStep(0),

@@ -4,6 +4,3 @@ pub mod owned;
 pub mod plain;
 pub mod random;
 pub mod runlist;
-
-#[cfg(feature = "archive")]
-pub mod ffi;

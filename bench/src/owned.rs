@@ -1,5 +1,5 @@
 //! The memory of one page, owned: what is lent to either implementation.
-use crate::plain::{Format, Memory, Reader, Writer};
+use lagumtay::raw::{Format, Lent, Reader, Writer};
 
 #[derive(Clone, Debug, Default, PartialEq)]
 pub struct Owned {
@@ -26,9 +26,9 @@ impl Owned {
     }
 
     /// What a call is lent.
-    pub fn lend(&mut self) -> (&Format, &[u16], Memory<'_>) {
+    pub fn lend(&mut self) -> Lent<'_> {
         let Owned { format, bases, page, writer, readers, buffers } = self;
-        (format, bases, Memory { page, writer, readers, buffers })
+        Lent { format, bases, page, writer, readers, buffers }
     }
 
     pub fn buffer(&self, reader: u8) -> &[u8] {

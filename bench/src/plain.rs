@@ -1,68 +1,13 @@
 //! Document 01 in plain Rust, over the same lent memory as the proved archive: the baseline of the bench, and the other
 //! side of the fuzz program. It is written from document 01 to be fast: a run checks its memory once, and after that a
 //! command costs a look at its kind and one byte moved.
+use lagumtay::raw::{Answer, Format, Lent, Reader, Writer};
+use lagumtay::Refusal::{self, *};
 
-/// The numbers of a page but for its count bases, which are lent as a slice.
-#[repr(C)]
-#[derive(Clone, Copy, Debug, Default, PartialEq, Eq)]
-pub struct Format {
-    pub q: usize,
-    pub base: u16,
-    pub n: usize,
-    pub readers: usize,
-}
-
-/// The writer's state; kind is [`IDLE`], [`COUNT`] or [`RECORD`]. Fields that its kind does not use are zero.
-#[repr(C)]
-#[derive(Clone, Copy, Debug, Default, PartialEq, Eq)]
-pub struct Writer {
-    pub count: u64,
-    pub index: usize,
-    pub steps: usize,
-    pub version: u32,
-    pub kind: u32,
-}
-
-/// A reader's state. The first eight digits are of c1 or v2, the other eight of c2 or v1; those not gathered are zero.
-#[repr(C)]
-#[derive(Clone, Copy, Debug, Default, PartialEq, Eq)]
-pub struct Reader {
-    pub kind: u8,
-    pub allowed: u8,
-    pub finished: u8,
-    pub steps: usize,
-    pub digits: [u8; 16],
-}
-
-/// What a run answers beside its refusal: commands carried out, and bytes written into the log.
-#[repr(C)]
-#[derive(Clone, Copy, Debug, Default, PartialEq, Eq)]
-pub struct Answer {
-    pub done: usize,
-    pub written: usize,
-}
-
-pub const IDLE: u8 = 0;
-pub const COUNT: u8 = 1;
-pub const RECORD: u8 = 2;
-
-#[repr(u8)]
-#[derive(Clone, Copy, Debug, PartialEq, Eq)]
-pub enum Refusal {
-    BadFormat = 1,
-    WrongLength,
-    InvalidState,
-    CountTooLarge,
-    CountDecreases,
-    Busy,
-    NothingPending,
-    NoSuch,
-    VersionsExhausted,
-    CopiesCrossed,
-    UnknownCommand,
-    LogFull,
-}
-use Refusal::*;
+// Kinds of a state, the writer's and a reader's.
+const IDLE: u8 = 0;
+const COUNT: u8 = 1;
+const RECORD: u8 = 2;
 
 pub type Ending = Result<(), Refusal>;
 
@@ -71,22 +16,15 @@ pub fn number(ending: Ending) -> u8 {
     ending.map_or_else(|why| why as u8, |()| 0)
 }
 
-/// What the callers lend from call to call.
-pub struct Memory<'a> {
-    pub page: &'a mut [u8],
-    pub writer: &'a mut Writer,
-    pub readers: &'a mut [Reader],
-    pub buffers: &'a mut [u8],
-}
-
 /// The opening. A refused one changes nothing.
-pub fn open(format: &Format, bases: &[u16], memory: Memory, count: u64, record: &[u8]) -> Ending {
+pub fn open(lent: &mut Lent, count: u64, record: &[u8]) -> Ending {
+    let Lent { format, bases, .. } = *lent;
     check_format(format, bases)?;
-    check_lengths(format, bases, &memory)?;
+    check_lengths(lent)?;
     ensure(record.len() == format.n, WrongLength)?;
     let digits = count_digits(bases, count).ok_or(CountTooLarge)?;
     let m = bases.len();
-    let (c1, rest) = memory.page.split_at_mut(m);
+    let (c1, rest) = lent.page.split_at_mut(m);
     let (c2, rest) = rest.split_at_mut(m);
     let (v1, rest) = rest.split_at_mut(format.q);
     let (content, v2) = rest.split_at_mut(format.n);
@@ -95,34 +33,27 @@ pub fn open(format: &Format, bases: &[u16], memory: Memory, count: u64, record: 
     v1.fill(0);
     content.copy_from_slice(record);
     v2.fill(0);
-    *memory.writer = Writer::default();
-    memory.readers.fill(Reader::default());
-    memory.buffers.fill(0);
+    *lent.writer = Writer::default();
+    lent.readers.fill(Reader::default());
+    lent.buffers.fill(0);
     Ok(())
 }
 
 /// A run: refusals 1 to 3 once at its start, then the commands in order up to the first that is refused.
 #[inline(never)] // the archive's run cannot be inlined either
-pub fn run(
-    format: &Format,
-    bases: &[u16],
-    memory: Memory,
-    records: &[u8],
-    commands: &[u8],
-    log: &mut [u8],
-) -> (Answer, Ending) {
-    if let Err(why) = check(format, bases, &memory, records) {
+pub fn run(lent: &mut Lent, records: &[u8], commands: &[u8], log: &mut [u8]) -> (Answer, Ending) {
+    if let Err(why) = check(lent, records) {
         return (Answer::default(), Err(why));
     }
     let mut log = Log { bytes: log, written: 0 };
-    let (done, ending) = Machine::new(format, bases, memory, records).commands(commands, &mut log);
+    let (done, ending) = Machine::new(lent, records).commands(commands, &mut log);
     (Answer { done, written: log.written }, ending)
 }
 
 /// The run of one command that cancels this reader's read.
-pub fn cancel(format: &Format, bases: &[u16], memory: Memory, records: &[u8], who: u8) -> Ending {
-    check(format, bases, &memory, records)?;
-    Machine::new(format, bases, memory, records).cancel(who)
+pub fn cancel(lent: &mut Lent, records: &[u8], who: u8) -> Ending {
+    check(lent, records)?;
+    Machine::new(lent, records).cancel(who)
 }
 
 fn ensure(condition: bool, otherwise: Refusal) -> Ending {
@@ -135,13 +66,14 @@ fn ensure(condition: bool, otherwise: Refusal) -> Ending {
 
 // THE CHECKS AT THE START OF A CALL
 
-fn check(format: &Format, bases: &[u16], memory: &Memory, records: &[u8]) -> Ending {
+fn check(lent: &Lent, records: &[u8]) -> Ending {
+    let Lent { format, bases, .. } = *lent;
     check_format(format, bases)?;
-    check_lengths(format, bases, memory)?;
+    check_lengths(lent)?;
     ensure(records.len().is_multiple_of(format.n), WrongLength)?;
-    let valid = valid_page(format, bases, memory.page)
-        && valid_writer(format, bases, records, memory.writer)
-        && memory.readers.iter().all(|reader| valid_reader(format, bases, reader));
+    let valid = valid_page(format, bases, lent.page)
+        && valid_writer(format, bases, records, lent.writer)
+        && lent.readers.iter().all(|reader| valid_reader(format, bases, reader));
     ensure(valid, InvalidState)
 }
 
@@ -156,10 +88,11 @@ pub fn check_format(format: &Format, bases: &[u16]) -> Ending {
     ensure(good, BadFormat)
 }
 
-fn check_lengths(format: &Format, bases: &[u16], memory: &Memory) -> Ending {
-    let good = memory.page.len() == 2 * bases.len() + 2 * format.q + format.n
-        && memory.readers.len() == format.readers
-        && memory.buffers.len() == format.readers * format.n;
+fn check_lengths(lent: &Lent) -> Ending {
+    let Format { q, n, readers, .. } = *lent.format;
+    let good = lent.page.len() == 2 * lent.bases.len() + 2 * q + n
+        && lent.readers.len() == readers
+        && lent.buffers.len() == readers * n;
     ensure(good, WrongLength)
 }
 
@@ -215,8 +148,8 @@ fn valid_reader(format: &Format, bases: &[u16], reader: &Reader) -> bool {
     }
 }
 
-/// Of both halves, the first from the left and the second from the right, `gathered` digits are below their bases and all
-/// others are zero.
+/// Of both halves, the first from the left and the second from the right, `gathered` digits are below their bases and
+/// all others are zero.
 fn valid_gathered(digits: &[u8; 16], bases: &[u16], gathered: usize) -> bool {
     let w = bases.len();
     let (first, second) = digits.split_at(8);
@@ -298,9 +231,9 @@ struct Machine<'a> {
 }
 
 impl<'a> Machine<'a> {
-    fn new(format: &Format, bases: &'a [u16], memory: Memory<'a>, records: &'a [u8]) -> Machine<'a> {
-        let Memory { page, writer, readers, buffers } = memory;
-        Machine { format: *format, bases, page, writer, readers, buffers, records, digits: None }
+    fn new(lent: &'a mut Lent, records: &'a [u8]) -> Machine<'a> {
+        let Lent { format, bases, page, writer, readers, buffers } = lent;
+        Machine { format: **format, bases, page, writer, readers, buffers, records, digits: None }
     }
 
     /// The commands up to the first that is refused: how many were carried out, and the refusal.

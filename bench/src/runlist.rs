@@ -1,8 +1,11 @@
 //! The printed run on top of the plain implementation, so that it is held to the recorded runs.
 use std::fmt::Write;
 
+use lagumtay::raw::Format;
+use lagumtay::Refusal;
+
 use crate::owned::Owned;
-use crate::plain::{self, number, Format, Refusal};
+use crate::plain::{self, number};
 
 const MOST_INPUT: usize = 65_536;
 
@@ -55,14 +58,13 @@ fn opened(input: &[u8]) -> Result<Opened<'_>, Refusal> {
     let record = take(&mut rest, format.n)?;
     let lent_records = take_number(&mut rest, 2)? as usize;
     let records = take(&mut rest, lent_records * format.n)?;
-    let mut owned = Owned::blank(format, &bases);
-    let (format, bases, memory) = owned.lend();
-    plain::open(format, bases, memory, count, record)?;
-    Ok(Opened { lent: owned, records, commands: rest })
+    let mut lent = Owned::blank(format, &bases);
+    plain::open(&mut lent.lend(), count, record)?;
+    Ok(Opened { lent, records, commands: rest })
 }
 
 /// How many bytes a command has; an unknown kind is refused with any number.
-pub fn command_length(kind: u8) -> usize {
+fn command_length(kind: u8) -> usize {
     match kind {
         1 => 9,
         2 | 5 => 3,
@@ -82,8 +84,7 @@ fn print(input: &[u8], out: &mut String) -> (usize, plain::Ending) {
     while let Some(&kind) = commands.first() {
         let (command, rest) = commands.split_at(command_length(kind).min(commands.len()));
         let mut log = [0; 10];
-        let (format, bases, memory) = lent.lend();
-        let (answer, ending) = plain::run(format, bases, memory, records, command, &mut log);
+        let (answer, ending) = plain::run(&mut lent.lend(), records, command, &mut log);
         if ending.is_err() {
             return (done, ending);
         }

@@ -1,6 +1,8 @@
 //! The plain implementation against document 01: its printed run, its trap, its edges, and each refusal.
+use lagumtay::raw::{Answer, Format, Reader, Writer};
+use lagumtay::Refusal;
 use lagumtay_bench::owned::Owned;
-use lagumtay_bench::plain::{self, number, Answer, Format, Reader, Refusal, Writer};
+use lagumtay_bench::plain::{self, number};
 use lagumtay_bench::runlist::printed;
 
 fn bytes(text: &str) -> Vec<u8> {
@@ -13,8 +15,7 @@ const FORMAT: Format = Format { q: 1, base: 10, n: 2, readers: 2 };
 const RECORDS: &[u8] = b"bbcc";
 
 fn open(lent: &mut Owned, count: u64, record: &[u8]) -> u8 {
-    let (format, bases, memory) = lent.lend();
-    number(plain::open(format, bases, memory, count, record))
+    number(plain::open(&mut lent.lend(), count, record))
 }
 
 fn opened(bases: &[u16], count: u64) -> Owned {
@@ -30,8 +31,7 @@ fn run(lent: &mut Owned, commands: &str) -> (usize, Vec<u8>, u8) {
 
 fn run_with(lent: &mut Owned, records: &[u8], commands: &str, room: usize) -> (usize, Vec<u8>, u8) {
     let mut log = vec![0xee; room];
-    let (format, bases, memory) = lent.lend();
-    let (Answer { done, written }, ending) = plain::run(format, bases, memory, records, &bytes(commands), &mut log);
+    let (Answer { done, written }, ending) = plain::run(&mut lent.lend(), records, &bytes(commands), &mut log);
     assert!(log[written..].iter().all(|&byte| byte == 0xee), "the log is written past what is told");
     log.truncate(written);
     (done, log, number(ending))
@@ -43,14 +43,6 @@ fn refused(lent: &mut Owned, commands: &str, refused: &str, number: u8) {
     let before = lent.clone();
     assert_eq!(run(lent, refused), (0, vec![], number));
     assert_eq!(*lent, before);
-}
-
-#[test]
-fn has_the_layout_of_the_header() {
-    assert_eq!(size_of::<Format>(), 32);
-    assert_eq!(size_of::<Writer>(), 32);
-    assert_eq!(size_of::<Reader>(), 32);
-    assert_eq!(size_of::<Answer>(), 16);
 }
 
 #[test]
@@ -199,8 +191,7 @@ fn refusal_3_invalid_state() {
         change(&mut lent);
         let before = lent.clone();
         assert_eq!(run(&mut lent, "03"), (0, vec![], 3), "change {i}");
-        let (format, bases, memory) = lent.lend();
-        assert_eq!(plain::cancel(format, bases, memory, RECORDS, 9), Err(Refusal::InvalidState));
+        assert_eq!(plain::cancel(&mut lent.lend(), RECORDS, 9), Err(Refusal::InvalidState));
         assert_eq!(lent, before);
     }
 }
@@ -267,10 +258,7 @@ fn a_reader_that_gives_up_leaves_zeros() {
 fn cancel_leaves_the_buffer() {
     let mut lent = opened(&[10], 4);
     assert_eq!(run(&mut lent, "050101 0601 0601").2, 0);
-    let cancel = |lent: &mut Owned, who| {
-        let (format, bases, memory) = lent.lend();
-        plain::cancel(format, bases, memory, RECORDS, who)
-    };
+    let cancel = |lent: &mut Owned, who| plain::cancel(&mut lent.lend(), RECORDS, who);
     assert_eq!(cancel(&mut lent, 2), Err(Refusal::NoSuch));
     assert_eq!(cancel(&mut lent, 0), Err(Refusal::NothingPending));
     assert_eq!(cancel(&mut lent, 1), Ok(()));

@@ -1,15 +1,15 @@
 //! Times the archive's run beside the plain one, on the same commands in one process, and prints nanoseconds a command.
 //!
-//!     cargo run --release --features archive --bin bench
+//!     cargo run --release --bin bench
 //!
 //! Both take turns; the least time of each counts, since whatever else the machine does only adds to it. Exit status 1:
 //! the two left different bytes, or the cost is not linear in the commands.
 use std::process::exit;
 use std::time::{Duration, Instant};
 
-use lagumtay_bench::ffi;
+use lagumtay::raw::{Answer, Format};
 use lagumtay_bench::owned::Owned;
-use lagumtay_bench::plain::{self, number, Answer, Format};
+use lagumtay_bench::plain::{self, number};
 use lagumtay_bench::random::Random;
 
 const COMMANDS: usize = 30_000;
@@ -32,24 +32,21 @@ impl Hall {
     /// Opened with the first of the records.
     fn open(bases: &[u16], format: Format, count: u64, records: Vec<u8>) -> Hall {
         let mut lent = Owned::blank(format, bases);
-        let (format, bases, memory) = lent.lend();
-        assert_eq!(plain::open(format, bases, memory, count, &records[..format.n]), Ok(()));
+        assert_eq!(plain::open(&mut lent.lend(), count, &records[..format.n]), Ok(()));
         Hall { lent, records, log: Vec::new(), written: 0 }
     }
 
     /// Run commands; the log goes on where the run before ended.
     fn plain(&mut self, commands: &[u8]) -> (Answer, u8) {
-        let (format, bases, memory) = self.lent.lend();
         let log = &mut self.log[self.written..];
-        let (answer, ending) = plain::run(format, bases, memory, &self.records, commands, log);
+        let (answer, ending) = plain::run(&mut self.lent.lend(), &self.records, commands, log);
         self.written += answer.written;
         (answer, number(ending))
     }
 
     fn archive(&mut self, commands: &[u8]) -> (Answer, u8) {
-        let (format, bases, memory) = self.lent.lend();
         let log = &mut self.log[self.written..];
-        let (answer, ending) = ffi::run(format, bases, memory, &self.records, commands, log);
+        let (answer, ending) = self.lent.lend().run(&self.records, commands, log);
         self.written += answer.written;
         (answer, ending)
     }
@@ -206,7 +203,7 @@ fn all(commands: usize) -> Vec<Case> {
 }
 
 fn main() {
-    println!("Nanoseconds a command: plain, {}, and its time divided by plain's.\n", env!("LAGUMTAY_ARCHIVE_NAME"));
+    println!("Nanoseconds a command: plain, the archive, and its time divided by plain's.\n");
     println!("| commands | runs of 1 | of 100 | of {COMMANDS} |");
     println!("|---|---|---|---|");
     for case in all(COMMANDS) {

@@ -1,17 +1,17 @@
 //! The archive against the plain implementation, on random and damaged calls.
 //!
-//!     cargo run --release --features archive --bin fuzz -- CALLS [SEED [CASE]]
+//!     cargo run --release --bin fuzz -- CALLS [SEED [CASE]]
 //!
-//! A case is a page with a row of calls, each from what the one before left: mostly schedules that go on, with damage to a
-//! byte, a field or a length now and then, and some cases of nothing but garbage. Every call goes to both, and everything
-//! that was lent is compared: format, bases, page, writer, readers, buffers, records, commands, log, and the answer. (Of the
-//! readers' states all fields are compared; the five bytes of padding have no contents.) CASE replays that one alone.
-//! Exit status 1: some call differed.
+//! A case is a page with a row of calls, each from what the one before left: mostly schedules that go on, with damage
+//! to a byte, a field or a length now and then, and some cases of nothing but garbage. Every call goes to both, and all
+//! that was lent is compared: format, bases, page, writer, readers, buffers, records, commands, log, and the answer.
+//! (Of the readers' states all fields are compared; the five bytes of padding have no contents.) CASE replays that one
+//! alone. Exit status 1: some call differed.
 use std::fmt;
 
-use lagumtay_bench::ffi;
+use lagumtay::raw::{Answer, Format, Reader, Writer};
 use lagumtay_bench::owned::Owned;
-use lagumtay_bench::plain::{self, number, Answer, Format, Reader, Writer};
+use lagumtay_bench::plain::{self, number};
 use lagumtay_bench::random::Random;
 
 const MOST_SHOWN: u64 = 10;
@@ -39,25 +39,21 @@ struct Call {
 
 impl Call {
     fn plain(&mut self) -> (Answer, u8) {
-        let (format, bases, memory) = self.lent.lend();
-        match self.function {
-            Function::Open => (Answer::default(), number(plain::open(format, bases, memory, self.count, &self.record))),
-            Function::Run => {
-                let (answer, ending) = plain::run(format, bases, memory, &self.records, &self.commands, &mut self.log);
-                (answer, number(ending))
-            }
-            Function::Cancel => {
-                (Answer::default(), number(plain::cancel(format, bases, memory, &self.records, self.who)))
-            }
-        }
+        let mut lent = self.lent.lend();
+        let (answer, ending) = match self.function {
+            Function::Open => (Answer::default(), plain::open(&mut lent, self.count, &self.record)),
+            Function::Run => plain::run(&mut lent, &self.records, &self.commands, &mut self.log),
+            Function::Cancel => (Answer::default(), plain::cancel(&mut lent, &self.records, self.who)),
+        };
+        (answer, number(ending))
     }
 
     fn archive(&mut self) -> (Answer, u8) {
-        let (format, bases, memory) = self.lent.lend();
+        let mut lent = self.lent.lend();
         match self.function {
-            Function::Open => (Answer::default(), ffi::open(format, bases, memory, self.count, &self.record)),
-            Function::Run => ffi::run(format, bases, memory, &self.records, &self.commands, &mut self.log),
-            Function::Cancel => (Answer::default(), ffi::cancel(format, bases, memory, &self.records, self.who)),
+            Function::Open => (Answer::default(), lent.open(self.count, &self.record)),
+            Function::Run => lent.run(&self.records, &self.commands, &mut self.log),
+            Function::Cancel => (Answer::default(), lent.cancel(&self.records, self.who)),
         }
     }
 }
@@ -207,8 +203,7 @@ impl Case<'_> {
                 } else {
                     self.reader_command(who, follower.readers.get(usize::from(who)))
                 };
-                let (format, bases, memory) = follower.lend();
-                let (_, ending) = plain::run(format, bases, memory, &self.call.records, &command, &mut [0; 10]);
+                let (_, ending) = plain::run(&mut follower.lend(), &self.call.records, &command, &mut [0; 10]);
                 // A run ends with its first refused command: few are let through.
                 if ending.is_ok() || self.random.one_in(60) {
                     self.call.commands.extend_from_slice(&command);

@@ -1,16 +1,18 @@
-//! A shared page with one writer and up to 16 readers, read without locks, after Lamport. The code behind these calls is
-//! proved: what each answers and leaves is an equation with the definitions under `crates/protocol/specs` of the repository.
+//! A shared page with one writer and up to 16 readers, read without locks, after Lamport. The code behind these calls
+//! is proved: what each answers and leaves is an equation with the definitions under `crates/protocol/specs` of the
+//! repository.
 //!
-//! All is done in single steps, so that a schedule decides who moves when: a write is begun by a [`Command`] and each of its
-//! digits moved by another; the same for reads. [`Page::run`] carries out a list of commands and tells in a log how reads
-//! ended.
+//! All is done in single steps, so that a schedule decides who moves when: a write is begun by a [`Command`] and each
+//! of its digits moved by another; the same for reads. [`Page::run`] carries out a list of commands and tells in a log
+//! how reads ended. A [`Page`] owns its memory; [`raw`] is for callers who own it themselves.
 
 mod entry;
-mod ffi;
+pub mod raw;
 
 use std::{error, fmt};
 
 pub use entry::{Entries, Entry};
+use raw::Lent;
 
 /// A running count.
 #[derive(Clone, Copy, Debug, PartialEq, Eq, PartialOrd, Ord, Hash)]
@@ -20,8 +22,8 @@ pub struct Count(pub u64);
 #[derive(Clone, Copy, Debug, PartialEq, Eq, PartialOrd, Ord, Hash)]
 pub struct Version(pub u32);
 
-/// The numbers of a page: its 1 to 8 count bases, q (1 to 4) version places of one base, n (1 to 256) bytes of record, 1 to
-/// 16 readers. Bases are 2 to 256.
+/// The numbers of a page: its 1 to 8 count bases, q (1 to 4) version places of one base, n (1 to 256) bytes of record,
+/// 1 to 16 readers. Bases are 2 to 256.
 #[derive(Clone, Debug, PartialEq, Eq)]
 pub struct Format {
     pub bases: Vec<u16>,
@@ -157,8 +159,8 @@ impl<'a> Ran<'a> {
 pub struct Page {
     format: Format,
     page: Vec<u8>,
-    writer: ffi::Writer,
-    readers: Vec<ffi::Reader>,
+    writer: raw::Writer,
+    readers: Vec<raw::Reader>,
     buffers: Vec<u8>,
 }
 
@@ -169,8 +171,8 @@ impl Page {
         let (q, n, readers) = (format.q.min(4), format.n.min(256), format.readers.min(16));
         let mut page = Page {
             page: vec![0; 2 * format.bases.len() + 2 * q + n],
-            writer: ffi::Writer::default(),
-            readers: vec![ffi::Reader::default(); readers],
+            writer: raw::Writer::default(),
+            readers: vec![raw::Reader::default(); readers],
             buffers: vec![0; readers * n],
             format,
         };
@@ -180,76 +182,26 @@ impl Page {
 
     /// The same page from the beginning. A refused opening changes nothing.
     pub fn open_again(&mut self, count: Count, record: &[u8]) -> Result<(), Refusal> {
-        let format = self.format.lent();
-        // Here and below each pointer comes with its length from a list that lives through the call, and no two overlap.
-        ending(unsafe {
-            ffi::lagumtay_open(
-                &format,
-                self.format.bases.as_ptr(),
-                self.format.bases.len(),
-                self.page.as_mut_ptr(),
-                self.page.len(),
-                &mut self.writer,
-                self.readers.as_mut_ptr(),
-                self.readers.len(),
-                self.buffers.as_mut_ptr(),
-                self.buffers.len(),
-                count.0,
-                record.as_ptr(),
-                record.len(),
-            )
-        })
+        ending(self.lend(|lent| lent.open(count.0, record)))
     }
 
-    /// Carry out commands up to the first that is refused. `records` are the lent records, n bytes each; what is promised of
-    /// counts and records over many runs holds if all of them get the same ones.
+    /// Carry out commands up to the first that is refused. `records` are the lent records, n bytes each; what is
+    /// promised of counts and records over many runs holds if all of them get the same ones.
     pub fn run<'a>(&mut self, records: &[u8], commands: &[u8], log: &'a mut [u8]) -> Ran<'a> {
-        let format = self.format.lent();
-        let mut answer = ffi::Answer::default();
-        let number = unsafe {
-            ffi::lagumtay_run(
-                &format,
-                self.format.bases.as_ptr(),
-                self.format.bases.len(),
-                self.page.as_mut_ptr(),
-                self.page.len(),
-                &mut self.writer,
-                self.readers.as_mut_ptr(),
-                self.readers.len(),
-                self.buffers.as_mut_ptr(),
-                self.buffers.len(),
-                records.as_ptr(),
-                records.len(),
-                commands.as_ptr(),
-                commands.len(),
-                log.as_mut_ptr(),
-                log.len(),
-                &mut answer,
-            )
-        };
+        let (answer, number) = self.lend(|lent| lent.run(records, commands, log));
         Ran { done: answer.done, log: &log[..answer.written], ending: ending(number) }
     }
 
     /// Drop a reader's read; its buffer keeps its bytes. Refusals 2 and 3 (of the records), 8 and 7.
     pub fn cancel(&mut self, records: &[u8], reader: u8) -> Result<(), Refusal> {
-        let format = self.format.lent();
-        ending(unsafe {
-            ffi::lagumtay_cancel(
-                &format,
-                self.format.bases.as_ptr(),
-                self.format.bases.len(),
-                self.page.as_mut_ptr(),
-                self.page.len(),
-                &self.writer,
-                self.readers.as_mut_ptr(),
-                self.readers.len(),
-                self.buffers.as_mut_ptr(),
-                self.buffers.len(),
-                records.as_ptr(),
-                records.len(),
-                reader,
-            )
-        })
+        ending(self.lend(|lent| lent.cancel(records, reader)))
+    }
+
+    /// A call with what it is lent. It is made in here, where its format lives.
+    fn lend<T>(&mut self, call: impl FnOnce(&mut Lent) -> T) -> T {
+        let Page { format, page, writer, readers, buffers } = self;
+        let numbers = raw::Format { q: format.q, base: format.base, n: format.n, readers: format.readers };
+        call(&mut Lent { format: &numbers, bases: &format.bases, page, writer, readers, buffers })
     }
 
     pub fn format(&self) -> &Format {
@@ -264,11 +216,5 @@ impl Page {
     /// A reader's buffer. It holds one whole record right after [`Entry::Accepted`], and may hold a torn one otherwise.
     pub fn buffer(&self, reader: u8) -> Option<&[u8]> {
         self.buffers.chunks(self.format.n).nth(reader.into())
-    }
-}
-
-impl Format {
-    fn lent(&self) -> ffi::Format {
-        ffi::Format { q: self.q, base: self.base, n: self.n, readers: self.readers }
     }
 }

@@ -1,0 +1,275 @@
+//! The archive's calls for a caller who owns the memory, as `include/lagumtay.h` has them. Endings are the bare numbers
+//! that the archive answers.
+
+/// Mirrors `lagumtay_format`: the numbers of a page but for its count bases, which are lent beside it.
+#[repr(C)]
+#[derive(Clone, Copy, Debug, Default, PartialEq, Eq)]
+pub struct Format {
+    pub q: usize,
+    pub base: u16,
+    pub n: usize,
+    pub readers: usize,
+}
+
+/// Mirrors `lagumtay_writer`: the writer's state. Kind 0: nothing pending; 1: a count; 2: a record. Fields that the
+/// kind does not use are zero.
+#[repr(C)]
+#[derive(Clone, Copy, Debug, Default, PartialEq, Eq)]
+pub struct Writer {
+    pub count: u64,
+    pub index: usize,
+    pub steps: usize,
+    pub version: u32,
+    pub kind: u32,
+}
+
+/// Mirrors `lagumtay_reader`: a reader's state. Kind 0: idle; 1: a count read; 2: a record read. Digits gathered of c1
+/// (or v2) stand from 0 on, those of c2 (or v1) from 8 on; those not gathered, and fields that the kind does not use,
+/// are zero.
+#[repr(C)]
+#[derive(Clone, Copy, Debug, Default, PartialEq, Eq)]
+pub struct Reader {
+    pub kind: u8,
+    pub allowed: u8,
+    pub finished: u8,
+    pub steps: usize,
+    pub digits: [u8; 16],
+}
+
+/// Mirrors `lagumtay_answer`: commands carried out, and bytes written into the log.
+#[repr(C)]
+#[derive(Clone, Copy, Debug, Default, PartialEq, Eq)]
+pub struct Answer {
+    pub done: usize,
+    pub written: usize,
+}
+
+extern "C" {
+    fn lagumtay_open(
+        format: *const Format,
+        bases: *const u16,
+        m: usize,
+        page: *mut u8,
+        page_len: usize,
+        writer: *mut Writer,
+        readers: *mut Reader,
+        readers_len: usize,
+        buffers: *mut u8,
+        buffers_len: usize,
+        count: u64,
+        record: *const u8,
+        record_len: usize,
+    ) -> u8;
+    fn lagumtay_run(
+        format: *const Format,
+        bases: *const u16,
+        m: usize,
+        page: *mut u8,
+        page_len: usize,
+        writer: *mut Writer,
+        readers: *mut Reader,
+        readers_len: usize,
+        buffers: *mut u8,
+        buffers_len: usize,
+        records: *const u8,
+        records_len: usize,
+        commands: *const u8,
+        commands_len: usize,
+        log: *mut u8,
+        log_len: usize,
+        answer: *mut Answer,
+    ) -> u8;
+    fn lagumtay_cancel(
+        format: *const Format,
+        bases: *const u16,
+        m: usize,
+        page: *mut u8,
+        page_len: usize,
+        writer: *const Writer,
+        readers: *mut Reader,
+        readers_len: usize,
+        buffers: *mut u8,
+        buffers_len: usize,
+        records: *const u8,
+        records_len: usize,
+        who: u8,
+    ) -> u8;
+}
+
+/// Calls the archive: the arguments that all three functions begin with, then those of this one.
+macro_rules! call {
+    ($function:ident, $lent:expr, $($own:expr),+) => {
+        $function(
+            $lent.format,
+            $lent.bases.as_ptr(),
+            $lent.bases.len(),
+            $lent.page.as_mut_ptr(),
+            $lent.page.len(),
+            $lent.writer,
+            $lent.readers.as_mut_ptr(),
+            $lent.readers.len(),
+            $lent.buffers.as_mut_ptr(),
+            $lent.buffers.len(),
+            $($own),+
+        )
+    };
+}
+
+/// What a page's calls are lent. The header says what lengths and values are accepted; any others are refused.
+#[derive(Debug)]
+pub struct Lent<'a> {
+    pub format: &'a Format,
+    pub bases: &'a [u16],
+    pub page: &'a mut [u8],
+    pub writer: &'a mut Writer,
+    pub readers: &'a mut [Reader],
+    pub buffers: &'a mut [u8],
+}
+
+// The three calls are sound: each pointer comes with its length from a reference that lives through the call, those
+// written through from `&mut`, so that none overlap. The archive answers for any values, touches nothing else, and any
+// bytes that it leaves are values of these types.
+impl Lent<'_> {
+    /// `lagumtay_open`.
+    pub fn open(&mut self, count: u64, record: &[u8]) -> u8 {
+        unsafe { call!(lagumtay_open, self, count, record.as_ptr(), record.len()) }
+    }
+
+    /// `lagumtay_run`.
+    #[inline] // so that a caller, in another crate too, takes the answer out of memory itself
+    pub fn run(&mut self, records: &[u8], commands: &[u8], log: &mut [u8]) -> (Answer, u8) {
+        // No answer that a run gives, so that one that is not written is seen.
+        let mut answer = Answer { done: usize::MAX, written: usize::MAX };
+        let ending = unsafe {
+            call!(
+                lagumtay_run,
+                self,
+                records.as_ptr(),
+                records.len(),
+                commands.as_ptr(),
+                commands.len(),
+                log.as_mut_ptr(),
+                log.len(),
+                &mut answer
+            )
+        };
+        (answer, ending)
+    }
+
+    /// `lagumtay_cancel`.
+    pub fn cancel(&mut self, records: &[u8], who: u8) -> u8 {
+        unsafe { call!(lagumtay_cancel, self, records.as_ptr(), records.len(), who) }
+    }
+}
+
+#[cfg(test)]
+mod tests {
+    use super::*;
+    use std::mem::{align_of, offset_of, size_of};
+
+    #[test]
+    fn structs_have_the_layout_of_the_header() {
+        assert_eq!([offset_of!(Format, q), offset_of!(Format, base)], [0, 8]);
+        assert_eq!([offset_of!(Format, n), offset_of!(Format, readers)], [16, 24]);
+        assert_eq!([offset_of!(Writer, count), offset_of!(Writer, index), offset_of!(Writer, steps)], [0, 8, 16]);
+        assert_eq!([offset_of!(Writer, version), offset_of!(Writer, kind)], [24, 28]);
+        assert_eq!([offset_of!(Reader, kind), offset_of!(Reader, allowed), offset_of!(Reader, finished)], [0, 1, 2]);
+        assert_eq!([offset_of!(Reader, steps), offset_of!(Reader, digits)], [8, 16]);
+        assert_eq!([offset_of!(Answer, done), offset_of!(Answer, written)], [0, 8]);
+        assert_eq!([size_of::<Format>(), size_of::<Writer>(), size_of::<Reader>()], [32; 3]);
+        assert_eq!(size_of::<Answer>(), 16);
+        assert_eq!([align_of::<Format>(), align_of::<Writer>(), align_of::<Reader>(), align_of::<Answer>()], [8; 4]);
+    }
+
+    const RECORDS: &[u8; 15] = b"abcdefghijklmno";
+
+    struct Memory {
+        page: [u8; 15],
+        writer: Writer,
+        readers: [Reader; 3],
+        buffers: [u8; 15],
+        log: [u8; 16],
+    }
+
+    impl Memory {
+        /// Opened with count 100 and record "abcde".
+        fn opened() -> Memory {
+            let mut memory = Memory {
+                page: [9; 15],
+                writer: Writer { count: 9, index: 9, steps: 9, version: 9, kind: 9 },
+                readers: [Reader { kind: 9, allowed: 9, finished: 9, steps: 9, digits: [9; 16] }; 3],
+                buffers: [9; 15],
+                log: [0; 16],
+            };
+            assert_eq!(memory.lend().0.open(100, &RECORDS[..5]), 0);
+            memory
+        }
+
+        /// What the calls are lent, and the log.
+        fn lend(&mut self) -> (Lent<'_>, &mut [u8]) {
+            let Memory { page, writer, readers, buffers, log } = self;
+            let format = &Format { q: 2, base: 11, n: 5, readers: 3 };
+            (Lent { format, bases: &[7, 8, 9], page, writer, readers, buffers }, log)
+        }
+
+        /// Commands carried out, log bytes written, and the ending.
+        fn run(&mut self, commands: &[u8]) -> (usize, usize, u8) {
+            let (mut lent, log) = self.lend();
+            let (Answer { done, written }, ending) = lent.run(RECORDS, commands, log);
+            (done, written, ending)
+        }
+    }
+
+    /// Each field gets a value of its own from the archive. Where the archive put it at another offset, or its structs
+    /// were of another size, some field here would have another value.
+    #[test]
+    fn the_archive_fills_these_fields() {
+        let mut memory = Memory::opened();
+        assert_eq!(memory.writer, Writer::default());
+        assert_eq!(memory.readers, [Reader::default(); 3]);
+
+        // 300 is 4, 1, 3 in bases 7, 8, 9: two of its six steps.
+        assert_eq!(memory.run(&[1, 0, 0, 0, 0, 0, 0, 1, 44, 3, 3]), (3, 0, 0));
+        assert_eq!(memory.writer, Writer { count: 300, index: 0, steps: 2, version: 0, kind: 1 });
+        assert_eq!(memory.run(&[3, 3, 3, 3]), (4, 0, 0));
+
+        // Record 2: three of its nine steps.
+        assert_eq!(memory.run(&[2, 0, 2, 3, 3, 3]), (4, 0, 0));
+        assert_eq!(memory.writer, Writer { count: 0, index: 2, steps: 3, version: 1, kind: 2 });
+
+        // Reader 1 is about to end a count read. Reader 2 is in the second of three attempts: the first met the half
+        // written record.
+        assert_eq!(memory.run(&[4, 1, 6, 1, 6, 1, 6, 1, 6, 1, 6, 1]), (6, 0, 0));
+        let digits = [4, 1, 3, 0, 0, 0, 0, 0, 0, 1, 3, 0, 0, 0, 0, 0];
+        assert_eq!(memory.readers[1], Reader { kind: 1, allowed: 0, finished: 0, steps: 5, digits });
+        assert_eq!(memory.run(&[5, 2, 3]), (1, 0, 0));
+        assert_eq!(memory.run(&[6, 2].repeat(11)), (11, 0, 0));
+        assert_eq!(memory.readers[2], Reader { kind: 2, allowed: 3, finished: 1, steps: 2, digits: [0; 16] });
+
+        assert_eq!(memory.run(&[6, 1, 6, 1]), (1, 10, 7));
+        assert_eq!(memory.log[..10], [1, 1, 0, 0, 0, 0, 0, 0, 1, 44]);
+    }
+
+    /// A value that no steps could leave is seen in each field.
+    #[test]
+    fn the_archive_reads_these_fields() {
+        let damages: [fn(&mut Memory); 10] = [
+            |memory| memory.writer.count = 1,
+            |memory| memory.writer.index = 1,
+            |memory| memory.writer.steps = 1,
+            |memory| memory.writer.version = 1,
+            |memory| memory.writer.kind = 3,
+            |memory| memory.readers[2].kind = 3,
+            |memory| memory.readers[2].allowed = 1,
+            |memory| memory.readers[2].finished = 1,
+            |memory| memory.readers[2].steps = 1,
+            |memory| memory.readers[2].digits[15] = 1,
+        ];
+        for damage in damages {
+            let mut memory = Memory::opened();
+            damage(&mut memory);
+            assert_eq!(memory.run(&[4, 0]), (0, 0, 3));
+        }
+        assert_eq!(Memory::opened().run(&[4, 0]), (1, 0, 0));
+    }
+}
