@@ -2,9 +2,6 @@
 ghost use Prim.Native.Nat.{_≤_};
 ghost use lib.ListN.{length};
 use libc::STDOUT_FILENO;
-use protocol::Writer;
-use radix::Count;
-use radix::Version;
 
 fn digit(x: usize) -> u8 {
     48 + (x % 10) as u8
@@ -64,16 +61,6 @@ fn goes_on(fd: i32, text: &[u8]) -> bool {
     io::read_full(fd, &mut got[..k]) == k && same_start(text, &got)
 }
 
-fn no_writer() -> Writer {
-    Writer {
-        count: Count(0),
-        index: 0,
-        steps: 0,
-        version: Version(0),
-        kind: 0,
-    }
-}
-
 // Does the file begin with the lines of the run?
 fn begins(input: &[u8], more: bool, page: &mut [u8], buffers: &mut [u8], output: i32) -> bool {
     let mut kinds = [0u8; 16];
@@ -86,7 +73,7 @@ fn begins(input: &[u8], more: bool, page: &mut [u8], buffers: &mut [u8], output:
         input,
         more,
         page,
-        no_writer(),
+        page::resting(),
         &mut kinds,
         &mut allowed,
         &mut finished,

@@ -1,5 +1,4 @@
 // The printed run of an input that ends with its first line.
-use crate::runs;
 use crate::show;
 use report::Started;
 
@@ -54,7 +53,7 @@ fn first(input: &[u8], more: bool, page: &mut [u8], buffers: &mut [u8]) {
         input,
         more,
         page,
-        runs::no_writer(),
+        page::resting(),
         &mut kinds,
         &mut allowed,
         &mut finished,

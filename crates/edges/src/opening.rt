@@ -1,7 +1,6 @@
 // One line for an opening.
 ghost use Prim.Native.Nat.{_≤_};
 ghost use lib.ListN.{length};
-use crate::runs;
 use crate::show;
 use protocol::Format;
 use radix::Count;
@@ -38,7 +37,7 @@ fn open(bases: &[u16], f: Format, count: u64)
         f,
         bases,
         &mut page[..long],
-        runs::no_writer(),
+        page::resting(),
         f.readers,
         &mut kinds,
         &mut allowed,

@@ -9,17 +9,6 @@ use page::Ran;
 use protocol::Format;
 use protocol::Writer;
 use radix::Count;
-use radix::Version;
-
-pub(crate) fn no_writer() -> Writer {
-    Writer {
-        count: Count(0),
-        index: 0,
-        steps: 0,
-        version: Version(0),
-        kind: 0,
-    }
-}
 
 // Commands carried out, bytes written and the refusal; then the log and the readers' buffers as the run left them.
 fn told(r: Ran, log: &[u8; 24], room: usize, buffers: &[u8; 4])
@@ -102,7 +91,7 @@ fn prepare(
         },
         &[10, 10, 10],
         page,
-        no_writer(),
+        page::resting(),
         2,
         kinds,
         allowed,

@@ -1,7 +1,6 @@
 -- What an exported call answers, and what was lent as it leaves it: the protocol's own opening and run.
 use mathlib.Core.List.{List, [], _∷_}
 use Prim.Native.Nat.{ℕ}
-use Rattle.radix.specs.declared.Count.{Count}
 use Rattle.protocol.specs.Form.{Form}
 use Rattle.protocol.specs.Memory.{Memory}
 use Rattle.protocol.specs.Outcome.{endingNumber}

@@ -14,7 +14,7 @@ use Rattle.page.specs.declared.turn.Verdict.{Verdict}
 use Rattle.page.specs.declared.turn.Turned.{Turned}
 use Rattle.page.specs.Decode.{decodeAt}
 use Rattle.page.specs.Entry.{overlay}
-use Rattle.page.specs.Carry.{Here, here, After, carryHere}
+use Rattle.page.specs.Carry.{Here, here, carryHere}
 
 -- what is lent, with the log, and how the run goes on
 pub data Turn : Type 0 where

@@ -21,6 +21,7 @@ use protocol::Outcome;
 use protocol::Refusal;
 use protocol::Writer;
 pub use runs::run;
+pub use writing::resting;
 
 // What an opening answers, and the writer as it leaves it.
 pub struct Opened {

@@ -126,7 +126,8 @@ fn record_put(format: Format, bases: &[u16], pending: &[u8; 8], records: &[u8], 
     }
 }
 
-pub(crate) fn resting() -> Writer
+// A writer with nothing pending.
+pub fn resting() -> Writer
     ensures { λ r. ⌜ r ≡ storedWriting atRest ⌝ }
 {
     Writer {

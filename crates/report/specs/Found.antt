@@ -1,6 +1,5 @@
 -- A header as the code hands it on: with the places where its parts begin in the input.
 use mathlib.Core.List.{List}
-use mathlib.Core.Bool.{cond}
 use Prim.Native.Nat.{ℕ}
 use lib.Dec.{ltb, leb}
 use lib.ListN.{length}

@@ -5,13 +5,13 @@ use mathlib.Core.Bool.{Bool, true, false, _||_, cond}
 use Prim.Native.Nat.{ℕ, zero, suc, _+_, _*_, _-_}
 use lib.Dec.{ltb, eqb}
 use lib.ListN.{length, take, drop, replicate}
-use Rattle.protocol.specs.Form.{Form, countSteps, recordSteps}
+use Rattle.protocol.specs.Form.{countSteps, recordSteps}
 use Rattle.protocol.specs.Command.{Decoded, over, unknown, command, decode}
 use Rattle.protocol.specs.declared.Refusal.the-variants.{InvalidState}
 use Rattle.protocol.specs.declared.Ending.{Ending}
 use Rattle.protocol.specs.declared.Ending.the-variants.{Finished, Refused}
 use Rattle.page.specs.Carry.{Here, RanHere, openHere, runHere}
-use Rattle.report.specs.Header.{Parsed, refused, header, Header, parse}
+use Rattle.report.specs.Header.{Parsed, refused, header, Header}
 use Rattle.report.specs.Text.{entryLine, endLine}
 use Rattle.report.specs.declared.Progress.{Progress}
 use Rattle.report.specs.declared.Space.{Space}

@@ -1,24 +1,11 @@
 // Prints the run of a schedule of single-digit steps: document 01's runlist.
 use libc::STDIN_FILENO;
 use libc::STDOUT_FILENO;
-use protocol::Writer;
-use radix::Count;
-use radix::Version;
 
 // Is there one byte more than what was read?
 fn more_follows() -> bool {
     let mut one = [0u8; 1];
     io::read_full(STDIN_FILENO, &mut one) == 1
-}
-
-fn no_writer() -> Writer {
-    Writer {
-        count: Count(0),
-        index: 0,
-        steps: 0,
-        version: Version(0),
-        kind: 0,
-    }
 }
 
 // One line after another, as they come.
@@ -33,7 +20,7 @@ fn print(input: &[u8], more: bool, page: &mut [u8], buffers: &mut [u8]) {
         input,
         more,
         page,
-        no_writer(),
+        page::resting(),
         &mut kinds,
         &mut allowed,
         &mut finished,

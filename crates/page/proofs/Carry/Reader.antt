@@ -38,7 +38,7 @@ use Rattle.page.specs.Store.{putRow, readerAt, putReader}
 use Rattle.page.specs.declared.command.Read.{Read}
 use Rattle.page.specs.Reader.{moved, Told, told, beside, stepStore, beginStore, cancelStore}
 use Rattle.page.specs.Command.{ofReader, beginRecordStore, readsOf, reads}
-use Rattle.page.specs.Carry.{Here, here, holding, After, after, onAnswer, carryHere, Ready}
+use Rattle.page.specs.Carry.{Here, here, holding, after, onAnswer, carryHere, Ready}
 use Rattle.page.proofs.Rows.Flat.{put-same}
 use Rattle.page.proofs.Rows.Readers.{Lists16}
 use Rattle.page.proofs.Steps.Meant.{onGather}

@@ -1,7 +1,7 @@
 -- The writer's commands: what the protocol means on what is lent is what the code does.
 use mathlib.Core.Path.{_≡_, refl, ap, _∙_}
 use mathlib.Core.List.{List}
-use mathlib.Core.Bool.{Bool, true, false, cond, not}
+use mathlib.Core.Bool.{Bool, cond, not}
 use Prim.Native.Nat.{ℕ, suc}
 use lib.Dec.{ltb, leb}
 use lib.ListN.{getD, set}
@@ -9,7 +9,7 @@ use Rattle.radix.specs.declared.Count.{Count}
 use Rattle.radix.specs.Digits.{product, value}
 use Rattle.protocol.specs.Form.{Form, versionBases, countSteps, recordSteps}
 use Rattle.protocol.specs.Layout.{c2, v1, look, countOrder, countDigits, recordOrder, recordDigits}
-use Rattle.protocol.specs.State.{Writing, resting, aCount, aRecord, State, busyWriting, withWriting}
+use Rattle.protocol.specs.State.{Writing, resting, aCount, aRecord, busyWriting, withWriting}
 use Rattle.protocol.specs.Step.{Answer as Meant, done, refuseIf, recordAt, inRecords, onward, stepWriter, carry}
 use Rattle.protocol.specs.Memory.{storedWriting}
 use Rattle.protocol.specs.Load.{loadWriting, load}

@@ -1,10 +1,10 @@
 -- From any state: the turns that are left print what one run of the bytes that are left prints.
 use mathlib.Core.Path.{_≡_, refl, sym, ap, _∙_}
-use mathlib.Core.List.{List, [], _∷_, _++_, map, append-nil, append-assoc}
-use mathlib.Core.Bool.{Bool, true, false, _||_, cond}
+use mathlib.Core.List.{List, [], _++_, map, append-nil, append-assoc}
+use mathlib.Core.Bool.{Bool, true, false, cond}
 use Prim.Native.Nat.{ℕ, zero, suc, _+_, _*_, _-_, _%_, _≤_, _<_}
 use native.Mathlib.Omega.{arith}
-use lib.Dec.{eqb, ltb}
+use lib.Dec.{eqb}
 use lib.ListN.{length, take, drop, replicate, length-drop}
 use lib.Seq.{take-append-seam, drop-drop, drop-length}
 use borrow.Author.Tests.{eqb-true, eqb-false}
@@ -12,20 +12,19 @@ use Rattle.protocol.specs.Lists.{concat}
 use Rattle.protocol.specs.Form.{Form, goodForm}
 use Rattle.protocol.specs.State.{State}
 use Rattle.protocol.specs.Outcome.{entry}
-use Rattle.protocol.specs.Step.{Answer, done, carry}
+use Rattle.protocol.specs.Step.{done}
 use Rattle.protocol.specs.Load.{load}
 use Rattle.protocol.specs.Run.{Went, Event, first, stop}
-use Rattle.protocol.specs.declared.Command.{Command}
 use Rattle.protocol.specs.declared.Outcome.{Outcome}
 use Rattle.protocol.specs.declared.Refusal.{Refusal}
 use Rattle.protocol.specs.declared.Ending.{Ending}
 use Rattle.protocol.specs.declared.Ending.the-variants.{Finished, Refused}
 use Rattle.protocol.proofs.InRange.{in-range}
-use Rattle.protocol.proofs.Allowed.Kept.{Fine, Kept}
+use Rattle.protocol.proofs.Allowed.Kept.{Fine}
 use Rattle.protocol.proofs.Allowed.Carry.{kept}
 use Rattle.protocol.proofs.Runs.Fuel.{full, full-over}
 use Rattle.page.specs.Store.{Lists16}
-use Rattle.page.specs.Carry.{Here, memory, holding, Ready, RanHere, wentHere}
+use Rattle.page.specs.Carry.{Here, memory, holding, Ready, wentHere}
 use Rattle.page.proofs.Carry.Holding.{holding-load, holding-lists, holding-ready, holding-twice}
 use Rattle.page.proofs.Loop.Started.{run-started}
 use Rattle.report.specs.declared.Progress.{Progress}

@@ -1,21 +1,19 @@
 -- From the start: all turns together print what one run of all commands prints, and no refusal 12.
 use mathlib.Core.Path.{_≡_, refl, sym, ap, _∙_, subst}
-use mathlib.Core.List.{List, [], _++_, map, append-nil}
-use mathlib.Core.Bool.{Bool, true, false, _&&_}
-use Prim.Native.Nat.{ℕ, suc, _+_, _*_, _-_, _≤_, _<_}
+use mathlib.Core.List.{List, _++_, map, append-nil}
+use mathlib.Core.Bool.{Bool, true}
+use Prim.Native.Nat.{ℕ, suc, _+_, _*_, _-_, _<_}
 use native.Mathlib.Omega.{arith}
 use native.Mathlib.Nat.{zero-add, le-refl}
-use lib.Dec.{eqb}
 use lib.ListN.{length, drop, replicate, length-drop, length-replicate}
 use borrow.Author.Tests.{eq-eqb, lt-leb}
 use Rattle.radix.specs.Digits.{product}
 use Rattle.protocol.specs.Lists.{concat}
-use Rattle.protocol.specs.Form.{Form, goodForm, countSteps, recordSteps}
+use Rattle.protocol.specs.Form.{Form, countSteps, recordSteps}
 use Rattle.protocol.specs.State.{State, opened}
 use Rattle.protocol.specs.Outcome.{endingNumber}
 use Rattle.protocol.specs.Memory.{stored, goodLengths}
-use Rattle.protocol.specs.Load.{load}
-use Rattle.protocol.specs.Run.{Went, Run, Ran, went, run, openPage}
+use Rattle.protocol.specs.Run.{Ran, went, run, openPage}
 use Rattle.protocol.specs.declared.Refusal.{Refusal}
 use Rattle.protocol.specs.declared.Ending.the-variants.{Refused}
 use Rattle.protocol.proofs.InRange.{in-range}
@@ -28,11 +26,10 @@ use Rattle.protocol.proofs.Runs.OnMemory.{run-started}
 use Rattle.page.specs.Store.{Lists16}
 use Rattle.page.specs.Carry.{Here, memory, holding, openHere}
 use Rattle.page.proofs.Rows.Readers.{length-readers}
-use Rattle.report.specs.declared.Progress.{Progress}
-use Rattle.report.specs.Header.{Parsed, refused, header, Header, formIn, headerIn, parse}
+use Rattle.report.specs.Header.{Parsed, refused, header, formIn, headerIn, parse}
 use Rattle.report.specs.Text.{endLine}
-use Rattle.report.specs.Turn.{Start, spaceOf, startOf, turnOf, turns}
-use Rattle.report.specs.Printed.{lineAfter, listing, printedOf, printed}
+use Rattle.report.specs.Turn.{spaceOf, startOf, turnOf, turns}
+use Rattle.report.specs.Printed.{lineAfter, listing, printedOf}
 use Rattle.report.proofs.Laws.Headers.{Accepted, accepted}
 use Rattle.report.proofs.Printed.Turns.{rest-told}
 use Rattle.report.proofs.Printed.Full.{never-full}

@@ -1,7 +1,6 @@
 -- What a command answers: a refusal is none of the log's, and the reader of an outcome is one that the form has.
-use mathlib.Core.Path.{_≡_}
 use mathlib.Core.List.{List, _∷_}
-use mathlib.Core.Bool.{_&&_, _||_, not, false}
+use mathlib.Core.Bool.{_&&_, _||_, not}
 use Prim.Native.Nat.{ℕ, suc, _+_, _<_}
 use native.Mathlib.Omega.{arith}
 use lib.Dec.{eqb, ltb, leb}
@@ -10,7 +9,6 @@ use borrow.Author.Tests.{leb-false}
 use Rattle.radix.specs.declared.Comparison.{Comparison}
 use Rattle.radix.specs.declared.Comparison.the-variants.{Equal, Parted, Crossed}
 use Rattle.radix.specs.Digits.{product, value}
-use Rattle.radix.specs.Copies.{compare}
 use Rattle.protocol.specs.Form.{Form, m, versionBases, countSteps, recordSteps}
 use Rattle.protocol.specs.Layout.{c2, v1, look}
 use Rattle.protocol.specs.Outcome.{refusalNumber}

@@ -1,19 +1,17 @@
 -- From what the page library's calls leave to the turn: what the code handed over is what the header says.
 use mathlib.Core.Path.{_≡_, sym, ap, _∙_, subst}
 use mathlib.Core.List.{List, map}
-use mathlib.Core.Bool.{Bool, true, false}
+use mathlib.Core.Bool.{true, false}
 use Prim.Native.Nat.{ℕ, _+_, _*_, _-_, _<_}
 use native.Mathlib.Omega.{arith}
 use lib.ListN.{length, take, drop, replicate}
-use Rattle.radix.specs.declared.Count.{Count}
 use Rattle.protocol.specs.Lists.{range}
 use Rattle.protocol.specs.Form.{Form, formOf}
-use Rattle.protocol.specs.declared.Format.{Format}
 use Rattle.protocol.specs.declared.Refusal.{Refusal}
 use Rattle.protocol.specs.declared.Ending.the-variants.{Finished, Refused}
 use Rattle.page.specs.declared.Opened.{Opened}
 use Rattle.page.specs.Entry.{overlay, added}
-use Rattle.page.specs.Carry.{Here, here, OpenedHere, openedHere, openHere, RanHere, ranHere, runHere}
+use Rattle.page.specs.Carry.{Here, here, openedHere, openHere, RanHere, runHere}
 use Rattle.report.specs.declared.header.Header.{Header as Found}
 use Rattle.report.specs.declared.Progress.{Progress}
 use Rattle.report.specs.declared.Told.{Told as Answer}
@@ -28,11 +26,10 @@ use Rattle.report.specs.Header.{
   recordAt,
   recordsAt,
   commandsAt,
-  parse,
 }
 use Rattle.report.specs.Found.{foundIn}
 use Rattle.report.specs.Text.{endLine, entryLine}
-use Rattle.report.specs.Turn.{Start, Turn, startOf, ends, nextWidth, runOne, told, carryOut}
+use Rattle.report.specs.Turn.{Turn, startOf, ends, nextWidth, runOne, told, carryOut}
 use Rattle.report.specs.Calls.{started, toldAll, toldFrom}
 use Rattle.report.proofs.Turns.Entries.{Told, entry-fits}
 

@@ -1,15 +1,13 @@
 -- The entry that a turn prints: all of it is in the log, and the reader's buffer is there.
 use mathlib.Core.Path.{_≡_, refl, sym, ap, _∙_, subst}
-use mathlib.Core.List.{List, _∷_}
-use Prim.Native.Nat.{ℕ, _+_, _*_, _≤_, _<_}
+use mathlib.Core.List.{List}
+use Prim.Native.Nat.{ℕ, _*_, _≤_, _<_}
 use native.Mathlib.Omega.{arith}
-use lib.ListN.{length, take, drop, getD, replicate, length-append}
+use lib.ListN.{length, take, drop, replicate, length-append}
 use lib.Seq.{take-append-seam}
 use Rattle.protocol.specs.Lists.{concat}
-use Rattle.protocol.specs.Form.{Form, goodForm}
-use Rattle.protocol.specs.State.{State}
+use Rattle.protocol.specs.Form.{Form}
 use Rattle.protocol.specs.Outcome.{entry}
-use Rattle.protocol.specs.Step.{Answer, done, carry}
 use Rattle.protocol.specs.Load.{load}
 use Rattle.protocol.specs.declared.Outcome.{Outcome}
 use Rattle.protocol.specs.declared.Outcome.the-variants.{Nothing, Shown, Accepted, GaveUp}
@@ -18,7 +16,7 @@ use Rattle.protocol.proofs.InRange.{in-range}
 use Rattle.protocol.proofs.Allowed.Kept.{Fine}
 use Rattle.protocol.proofs.Allowed.Means.{means}
 use Rattle.protocol.proofs.Allowed.Carry.{kept}
-use Rattle.protocol.proofs.Log.Entries.{length-shown, length-accepted, length-gaveUp}
+use Rattle.protocol.proofs.Log.Entries.{length-shown, length-accepted}
 use Rattle.protocol.proofs.Memory.Parts.{length-concat}
 use Rattle.protocol.proofs.Memory.Stored.{valid-parts, load-sized}
 use Rattle.page.specs.Carry.{Here, memory, RanHere}

@@ -1,13 +1,12 @@
 -- A turn that is not the last goes forward in the input, and its text is in the line.
 use mathlib.Core.Path.{_≡_, refl, sym, ap, _∙_}
 use mathlib.Core.List.{List, _++_}
-use mathlib.Core.Bool.{Bool, true, false, _||_}
+use mathlib.Core.Bool.{false, _||_}
 use Prim.Native.Nat.{ℕ, _+_, _≤_, _<_}
 use native.Mathlib.Omega.{arith}
 use lib.Dec.{eqb, ltb}
 use lib.ListN.{length, drop, length-drop, length-append}
 use borrow.Author.Tests.{ltb-false, eqb-false}
-use Rattle.protocol.specs.declared.Refusal.{Refusal}
 use Rattle.protocol.specs.declared.Refusal.the-variants.{InvalidState}
 use Rattle.protocol.specs.declared.Ending.{Ending}
 use Rattle.protocol.specs.declared.Ending.the-variants.{Finished, Refused}
@@ -15,7 +14,7 @@ use Rattle.protocol.proofs.Lists.Cases.{by-cond, neither}
 use Rattle.page.specs.Carry.{Here}
 use Rattle.report.specs.declared.Progress.{Progress}
 use Rattle.report.specs.declared.Told.{Told as Answer}
-use Rattle.report.specs.Header.{Parsed, refused, header, Header, parse}
+use Rattle.report.specs.Header.{Parsed, refused, header, Header}
 use Rattle.report.specs.Turn.{Turn, ends, nextWidth, runOne, told, carryOut, turnOf}
 use Rattle.report.specs.Calls.{ToldHere, toldAll, toldFrom}
 use Rattle.report.proofs.Laws.Widths.{width-fits}

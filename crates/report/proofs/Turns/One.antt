@@ -1,10 +1,8 @@
 -- A run of one command, cut from the front of the bytes, does what the run of all bytes does first.
-use mathlib.Core.Path.{_≡_, refl, sym, ap, _∙_, subst}
-use mathlib.Core.List.{List, [], _∷_, _++_, append-nil}
-use mathlib.Core.Bool.{Bool, true, false, cond}
+use mathlib.Core.Path.{_≡_, refl, sym, ap, _∙_}
+use mathlib.Core.List.{List, [], _∷_, append-nil}
 use Prim.Native.Nat.{ℕ, _+_, _-_, _≤_, _<_}
 use native.Mathlib.Omega.{arith}
-use lib.Dec.{ltb}
 use lib.ListN.{length, take, drop, length-append}
 use lib.Seq.{take-append-seam, drop-append-seam, take-length}
 use borrow.Author.Tests.{le-ltb}
@@ -13,12 +11,12 @@ use Rattle.protocol.specs.State.{State}
 use Rattle.protocol.specs.Outcome.{refusalNumber, entry}
 use Rattle.protocol.specs.Command.{Decoded, over, unknown, command, decode}
 use Rattle.protocol.specs.Step.{Answer, refused, done, carry}
-use Rattle.protocol.specs.Run.{Went, Event, first, stop, answered}
+use Rattle.protocol.specs.Run.{first, stop, answered}
 use Rattle.protocol.specs.declared.Command.{Command}
 use Rattle.protocol.specs.declared.Outcome.{Outcome}
 use Rattle.protocol.specs.declared.Outcome.the-variants.{Nothing, Shown, Accepted, GaveUp}
 use Rattle.protocol.specs.declared.Refusal.{Refusal}
-use Rattle.protocol.specs.declared.Refusal.the-variants.{UnknownCommand, LogFull}
+use Rattle.protocol.specs.declared.Refusal.the-variants.{UnknownCommand}
 use Rattle.protocol.specs.declared.Ending.the-variants.{Finished, Refused}
 use Rattle.protocol.proofs.Log.Entries.{length-nothing, length-shown, length-accepted, length-gaveUp}
 use Rattle.protocol.proofs.Runs.Decode.{Front, decode-front, decode-some}

@@ -1,27 +1,25 @@
 -- What the call of one command leaves of all that is lent.
 use mathlib.Core.Path.{_≡_, refl, sym, ap, _∙_}
-use mathlib.Core.List.{List, [], _∷_, _++_, append-nil}
-use Prim.Native.Nat.{ℕ, _*_, _<_}
+use mathlib.Core.List.{List, _++_, append-nil}
+use Prim.Native.Nat.{ℕ, _<_}
 use native.Mathlib.Omega.{arith}
 use lib.ListN.{length, take, drop, replicate}
 use Rattle.protocol.specs.Form.{Form}
 use Rattle.protocol.specs.State.{State}
 use Rattle.protocol.specs.Outcome.{entry}
-use Rattle.protocol.specs.Step.{Answer, done, carry}
+use Rattle.protocol.specs.Step.{done, carry}
 use Rattle.protocol.specs.Memory.{storedWriting}
 use Rattle.protocol.specs.Load.{load}
-use Rattle.protocol.specs.Run.{Went, Event, first, stop, logAfter}
+use Rattle.protocol.specs.Run.{Went, first, stop, logAfter}
 use Rattle.protocol.specs.declared.Command.{Command}
 use Rattle.protocol.specs.declared.Outcome.{Outcome}
 use Rattle.protocol.specs.declared.Refusal.{Refusal}
 use Rattle.protocol.specs.declared.Ending.{Ending}
 use Rattle.protocol.specs.declared.Ending.the-variants.{Finished, Refused}
-use Rattle.protocol.proofs.Allowed.Kept.{Fine}
 use Rattle.protocol.proofs.Runs.Fuel.{full}
 use Rattle.page.specs.Store.{Lists16}
 use Rattle.page.specs.Carry.{Here, memory, holding, Ready, RanHere, ranHere, ranOf, wentHere, runHere}
 use Rattle.page.specs.Carry.{startOf as runStart}
-use Rattle.page.proofs.Carry.Stands.{fine-now}
 use Rattle.page.proofs.Carry.Holding.{holding-now}
 use Rattle.page.proofs.Loop.Begins.{run-refused-at, run-begins}
 use Rattle.report.specs.Turn.{nextWidth}

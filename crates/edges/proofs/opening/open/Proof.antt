@@ -35,8 +35,8 @@ array-borrow-prefix-page c = search needs
 slice-aggregate-open : tie.Need-slice-aggregate-open
 slice-aggregate-open c = sym (length-take-le _ _ (array-borrow-prefix-page (c .before)))
 
-no-writer-requires : tie.Need-no-writer-requires
-no-writer-requires c κs = search needs
+resting-requires : tie.Need-resting-requires
+resting-requires c κs = search needs
 
 array-borrow-prefix-buffers : tie.Need-array-borrow-prefix-buffers
 array-borrow-prefix-buffers c =
@@ -80,7 +80,7 @@ open-spec =
     named-requires
     array-borrow-prefix-page
     slice-aggregate-open
-    no-writer-requires
+    resting-requires
     array-borrow-prefix-buffers
     slice-aggregate-open-2
     array-share-prefix-record

@@ -11,7 +11,7 @@ use Rattle.page.specs.declared.Answer.{Answer}
 use Rattle.page.specs.declared.Answer.the-variants.{Refused}
 use Rattle.page.specs.declared.command.Read.{Read}
 use Rattle.page.specs.Store.{Store}
-use Rattle.page.specs.Reader.{Moved, moved, Told, told, beside, stepStore, beginStore, cancelStore}
+use Rattle.page.specs.Reader.{Moved, moved, told, beside, stepStore, beginStore, cancelStore}
 use Rattle.page.specs.Command.{beginRecordStore, readsOf, reads}
 
 module _ (F : Form) (page : List ℕ) (t : Store) (buffers : List ℕ) {i who : ℕ} (room : ℕ) (x : Read)

@@ -1,17 +1,14 @@
 -- The call of the page library is handed what the header says, and its answer is told.
 use borrow.Author.Needs.{needs}
-use mathlib.Core.Path.{_≡_, sym, ap, _∙_}
-use mathlib.Core.List.{map}
+use mathlib.Core.Path.{sym, ap}
 use mathlib.Core.Bool.{false}
-use Prim.Native.Nat.{_+_, _*_, _≤_, _<_}
+use Prim.Native.Nat.{_+_, _≤_, _<_}
 use native.Mathlib.Omega.{arith}
 use lib.ListN.{length, drop, length-drop}
 use lib.Seq.{length-take-le}
-use Rattle.protocol.specs.Lists.{range}
 use Rattle.page.specs.Store.{store}
-use Rattle.page.specs.Entry.{Added}
 use Rattle.page.specs.Carry.{Here, here}
-use Rattle.report.specs.Header.{number, headerIn}
+use Rattle.report.specs.Header.{headerIn}
 use Rattle.report.proofs.Laws.Headers.{Accepted, accepted}
 use Rattle.report.proofs.Laws.Widths.{width-fits}
 use Rattle.report.proofs.Turns.Calls.{call-is, told-is, carry-ends, carry-goes}
