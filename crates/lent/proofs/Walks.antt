@@ -1,16 +1,27 @@
--- What the proofs by hand share: loans, and for each function that is called what it asks and what it gives.
+-- What the proofs by hand share: locals, loans, and for each function that is called what it asks and what it gives.
 pub mod After
 pub mod Elem
 pub mod Made
 pub mod Kept
 pub mod Rooms
+pub mod Flat
+pub mod Locals
 pub mod Both
 pub mod Tests
 pub mod Clears
 pub mod Finishes
 pub mod Shared
+pub mod Several
+pub mod Arrays
+pub mod Ahead
+pub mod Zeros
+pub mod Again
+pub mod Call
+pub mod Puts
+pub mod Takes
 pub mod Few
 pub mod Gathers
+pub mod Gathering
 pub mod Scatters
 pub mod Core
 pub mod Ends

@@ -60,7 +60,7 @@ unfoldable pub cancelLent : Form → (records : List ℕ) → Memory → (who : 
 cancelLent F S L who =
     let x = run F S L (record { given = 7 ∷ who ∷ []; log = [] }) in endedLent (x .ending) (x .memory)
 
--- the same over states by value, of which nothing is kept
+-- the same over the core's arrays, of which nothing is kept
 pub record EndedHere : Type 0 where
   pub ending : Ending
   pub page : List ℕ

@@ -2,48 +2,55 @@
 ghost use mathlib.Core.Path.{_≡_};
 ghost use Rattle.protocol.specs.Form.{formOf};
 ghost use Rattle.page.specs.Carry.{here};
-ghost use Rattle.lent.specs.Store.{of16};
+ghost use Rattle.page.specs.Store.{store};
 ghost use Rattle.lent.specs.Calls.{lent, endedHere, cancelHere, endedLent, cancelLent};
 use crate::opening;
-use crate::running;
 use crate::slice;
-use crate::store::Store16;
 use protocol::Ending;
 use protocol::Format;
 use protocol::Reader;
 use protocol::Writer;
 
-// The run of the one command to cancel a read, over states by value that are then let go.
+// The run of the one command to cancel a read.
 pub(crate) fn cancel_gathered(
     readers: usize,
-    s: Store16,
     format: Format,
     bases: &[u16],
     page: &mut [u8],
     writer: Writer,
+    kinds: &mut [u8; 16],
+    allowed: &mut [u8; 16],
+    finished: &mut [u8; 16],
+    steps: &mut [usize; 16],
+    digits: &mut [u8; 256],
     buffers: &mut [u8],
     records: &[u8],
     who: u8,
 ) -> Ending
     ensures { λ r. ⌜ endedHere r (now (page .exit)) (now (buffers .exit))
         ≡ cancelHere (formOf (now (bases .entry)) format) (now (records .entry)) readers
-        (here (now (page .entry)) writer (of16 s) (now (buffers .entry))) who ⌝ }
+        (here (now (page .entry)) writer
+        (store (now (kinds .entry)) (now (allowed .entry)) (now (finished .entry)) (now (steps .entry))
+        (now (digits .entry))) (now (buffers .entry))) who ⌝ }
 {
     let commands: [u8; 2] = [7, who];
     let mut log: [u8; 1] = [0];
-    let w = running::run_gathered(
-        readers,
-        s,
+    let ran = page::run(
         format,
         bases,
         page,
         writer,
+        readers,
+        kinds,
+        allowed,
+        finished,
+        steps,
+        digits,
         buffers,
         records,
         &commands,
         &mut log[..0],
     );
-    let ran = w.ran;
     ran.ending
 }
 
@@ -65,8 +72,35 @@ pub fn cancel(
 {
     let n = readers.len();
     let k = slice::few_of(n);
-    let s = slice::gather(readers, k);
-    let e = cancel_gathered(n, s, format, bases, page, writer, buffers, records, who);
+    let mut kinds: [u8; 16] = [0; 16];
+    let mut allowed: [u8; 16] = [0; 16];
+    let mut finished: [u8; 16] = [0; 16];
+    let mut steps: [usize; 16] = [0; 16];
+    let mut digits: [u8; 256] = [0; 256];
+    slice::gather(
+        readers,
+        k,
+        &mut kinds,
+        &mut allowed,
+        &mut finished,
+        &mut steps,
+        &mut digits,
+    );
+    let e = cancel_gathered(
+        n,
+        format,
+        bases,
+        page,
+        writer,
+        &mut kinds,
+        &mut allowed,
+        &mut finished,
+        &mut steps,
+        &mut digits,
+        buffers,
+        records,
+        who,
+    );
     let i = slice::place_of(who);
     if opening::ended(e) {
         slice::empty(&mut readers[i]);

@@ -1,12 +1,11 @@
-// A lent slice of readers: its readers become idle, the first of them are taken by value, and put back.
+// A lent slice of readers: its readers become idle, the first of them are taken into the core's arrays, and put back.
 ghost use mathlib.Core.Path.{_≡_};
 ghost use Prim.Native.Nat.{_≤_};
 ghost use lib.ListN.{length, replicate, take};
 ghost use Rattle.protocol.specs.Lists.{All};
-ghost use Rattle.page.specs.Store.{idleReader};
-ghost use Rattle.lent.specs.Store.{of16, Whole, few, gathered, placed};
+ghost use Rattle.page.specs.Store.{store, putReaders, idleReader};
+ghost use Rattle.lent.specs.Store.{Whole, few, placed};
 use crate::store;
-use crate::store::Store16;
 use protocol::Reader;
 
 // A reader becomes idle.
@@ -43,28 +42,49 @@ pub(crate) fn few_of(n: usize) -> usize
     0
 }
 
-// The first k readers, by value.
-pub(crate) fn gather(readers: &[Reader], k: usize) -> Store16
+// The first k readers, into the core's arrays.
+pub(crate) fn gather(
+    readers: &[Reader],
+    k: usize,
+    kinds: &mut [u8; 16],
+    allowed: &mut [u8; 16],
+    finished: &mut [u8; 16],
+    steps: &mut [usize; 16],
+    digits: &mut [u8; 256],
+)
     requires { ⌜ (k ≤ 16) × (k ≤ length (now readers)) ⌝ }
-    ensures { λ r. ⌜ (of16 r ≡ gathered k (now (readers .entry))) × All Whole (take k (now (readers .entry))) ⌝ }
+    ensures { λ _. ⌜ (store (now (kinds .exit)) (now (allowed .exit)) (now (finished .exit)) (now (steps .exit))
+        (now (digits .exit))
+        ≡ putReaders (take k (now (readers .entry)))
+        (store (now (kinds .entry)) (now (allowed .entry)) (now (finished .entry)) (now (steps .entry))
+        (now (digits .entry))))
+        × All Whole (take k (now (readers .entry))) ⌝ }
 {
-    let mut s = store::none();
     let mut i: usize = 0;
     while i < k {
-        s = store::with(s, i, readers[i]);
+        store::put(readers[i], i, kinds, allowed, finished, steps, digits);
         i += 1;
     }
-    s
 }
 
-// The first k readers become those of a store.
-pub(crate) fn scatter(readers: &mut [Reader], k: usize, s: Store16)
+// The first k readers become those of the core's arrays.
+pub(crate) fn scatter(
+    readers: &mut [Reader],
+    k: usize,
+    kinds: &[u8; 16],
+    allowed: &[u8; 16],
+    finished: &[u8; 16],
+    steps: &[usize; 16],
+    digits: &[u8; 256],
+)
     requires { ⌜ (k ≤ 16) × (k ≤ length (now readers)) ⌝ }
-    ensures { λ _. ⌜ now (readers .exit) ≡ placed 0 k (of16 s) (now (readers .entry)) ⌝ }
+    ensures { λ _. ⌜ now (readers .exit)
+        ≡ placed 0 k (store (now (kinds .entry)) (now (allowed .entry)) (now (finished .entry)) (now (steps .entry))
+        (now (digits .entry))) (now (readers .entry)) ⌝ }
 {
     let mut i: usize = 0;
     while i < k {
-        readers[i] = store::at(s, i);
+        readers[i] = store::at(i, kinds, allowed, finished, steps, digits);
         i += 1;
     }
 }

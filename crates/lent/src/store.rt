@@ -1,30 +1,9 @@
-// The readers' states as the core keeps them, by value.
+// The readers' states as the core keeps them: five arrays of sixteen.
 ghost use mathlib.Core.Path.{_≡_};
 ghost use Prim.Native.Nat.{_<_};
 ghost use lib.ListN.{length};
-ghost use Rattle.page.specs.Store.{row, putRow, readerAt, putReader};
-ghost use Rattle.lent.specs.Store.{of16, zeros};
+ghost use Rattle.page.specs.Store.{store, row, putRow, readerAt, putReader};
 use protocol::Reader;
-
-pub(crate) struct Store16 {
-    pub(crate) kinds: [u8; 16],
-    pub(crate) allowed: [u8; 16],
-    pub(crate) finished: [u8; 16],
-    pub(crate) steps: [usize; 16],
-    pub(crate) digits: [u8; 256],
-}
-
-pub(crate) fn none() -> Store16
-    ensures { λ r. ⌜ of16 r ≡ zeros ⌝ }
-{
-    Store16 {
-        kinds: [0; 16],
-        allowed: [0; 16],
-        finished: [0; 16],
-        steps: [0; 16],
-        digits: [0; 256],
-    }
-}
 
 // Sixteen digits in the place of row i.
 fn put_row(digits: &mut [u8], i: usize, row: &[u8])
@@ -50,42 +29,45 @@ fn get_row(digits: &[u8], i: usize, out: &mut [u8])
 }
 
 // Another reader in place i.
-pub(crate) fn with(s: Store16, i: usize, x: Reader) -> Store16
+pub(crate) fn put(
+    x: Reader,
+    i: usize,
+    kinds: &mut [u8; 16],
+    allowed: &mut [u8; 16],
+    finished: &mut [u8; 16],
+    steps: &mut [usize; 16],
+    digits: &mut [u8; 256],
+)
     requires { ⌜ i < 16 ⌝ }
-    ensures { λ r. ⌜ of16 r ≡ putReader (of16 s) i x ⌝ }
+    ensures { λ r. ⌜ store (now (kinds .exit)) (now (allowed .exit)) (now (finished .exit)) (now (steps .exit))
+        (now (digits .exit))
+        ≡ putReader (store (now (kinds .entry)) (now (allowed .entry)) (now (finished .entry)) (now (steps .entry))
+        (now (digits .entry))) i x ⌝ }
 {
-    let mut kinds = s.kinds;
-    let mut allowed = s.allowed;
-    let mut finished = s.finished;
-    let mut steps = s.steps;
-    let mut digits = s.digits;
     let d = x.digits;
     kinds[i] = x.kind;
     allowed[i] = x.allowed;
     finished[i] = x.finished;
     steps[i] = x.steps;
-    put_row(&mut digits, i, &d);
-    Store16 {
-        kinds: kinds,
-        allowed: allowed,
-        finished: finished,
-        steps: steps,
-        digits: digits,
-    }
+    put_row(digits, i, &d);
 }
 
 // The reader in place i.
-pub(crate) fn at(s: Store16, i: usize) -> Reader
+pub(crate) fn at(
+    i: usize,
+    kinds: &[u8; 16],
+    allowed: &[u8; 16],
+    finished: &[u8; 16],
+    steps: &[usize; 16],
+    digits: &[u8; 256],
+) -> Reader
     requires { ⌜ i < 16 ⌝ }
-    ensures { λ r. ⌜ r ≡ readerAt (of16 s) i ⌝ }
+    ensures { λ r. ⌜ r
+        ≡ readerAt (store (now (kinds .entry)) (now (allowed .entry)) (now (finished .entry)) (now (steps .entry))
+        (now (digits .entry))) i ⌝ }
 {
-    let kinds = s.kinds;
-    let allowed = s.allowed;
-    let finished = s.finished;
-    let steps = s.steps;
-    let digits = s.digits;
     let mut d: [u8; 16] = [0; 16];
-    get_row(&digits, i, &mut d);
+    get_row(digits, i, &mut d);
     Reader {
         kind: kinds[i],
         allowed: allowed[i],

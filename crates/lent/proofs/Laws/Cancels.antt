@@ -29,10 +29,11 @@ use Rattle.protocol.proofs.Runs.OnMemory.{Started, commandsOn, run-started}
 use Rattle.page.specs.Store.{idleReader}
 use Rattle.page.specs.Carry.{here, runHere}
 use Rattle.page.proofs.Common.Tests.{never}
-use Rattle.lent.specs.Store.{Whole, few, gathered}
-use Rattle.lent.specs.Calls.{lent, finishes, RanLent, runLent, EndedHere, endedHere, cancelHere, endedLent, cancelLent}
+use Rattle.lent.specs.Store.{Whole, few}
+use Rattle.lent.specs.Calls.{lent, finishes, RanLent, runLent, EndedHere, endedHere, cancelHere, endedLent}
+use Rattle.lent.specs.Calls.{cancelLent}
 use Rattle.lent.proofs.Laws.Goes.{Goes, refuses, starts, run-goes}
-use Rattle.lent.proofs.Laws.Runs.{ran-lent}
+use Rattle.lent.proofs.Laws.Runs.{gathered, ran-lent}
 
 -- THE ONE COMMAND
 

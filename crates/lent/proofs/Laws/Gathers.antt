@@ -1,4 +1,4 @@
--- One turn more of the loops that gather readers into a store, and that place those of a store.
+-- One turn more of the loops that put readers into a store, and that place those of a store.
 use mathlib.Core.Path.{_≡_, refl, ap, _∙_}
 use Prim.Native.Nat.{ℕ, zero, suc, _+_, _<_}
 use native.Mathlib.Nat.{add-zero, not-suc-le-zero, le-of-suc-le-suc}
@@ -7,8 +7,8 @@ use mathlib.Core.List.{List, [], _∷_}
 use lib.ListN.{length, getD, set, take}
 use Rattle.protocol.specs.Lists.{All}
 use Rattle.protocol.specs.declared.Reader.{Reader}
-use Rattle.page.specs.Store.{Store, readerAt, putReader, putFrom}
-use Rattle.lent.specs.Store.{Whole, zeros, gathered, placed}
+use Rattle.page.specs.Store.{Store, readerAt, putReader, putReaders, putFrom}
+use Rattle.lent.specs.Store.{Whole, placed}
 
 from-next :
     (a i : ℕ) (xs : List Reader) (t : Store) (d : Reader) → i < length xs →
@@ -21,10 +21,10 @@ from-next a (suc i) (x ∷ xs) t d l =
     ∙ from-next (suc a) i xs (putReader t a x) d (le-of-suc-le-suc l)
 
 pub gather-next :
-    (i : ℕ) (xs : List Reader) (d : Reader) → i < length xs →
-    putReader (gathered i xs) i (getD xs i d) ≡ gathered (suc i) xs
-gather-next i xs d l =
-    ap (λ n. putReader (gathered i xs) n (getD xs i d)) (omega arith) ∙ from-next 0 i xs zeros d l
+    (i : ℕ) (xs : List Reader) (t : Store) (d : Reader) → i < length xs →
+    putReader (putReaders (take i xs) t) i (getD xs i d) ≡ putReaders (take (suc i) xs) t
+gather-next i xs t d l =
+    ap (λ n. putReader (putReaders (take i xs) t) n (getD xs i d)) (omega arith) ∙ from-next 0 i xs t d l
 
 pub whole-next :
     (i : ℕ) (xs : List Reader) (d : Reader) → i < length xs → All Whole (take i xs) → Whole (getD xs i d) →

@@ -5,7 +5,7 @@ use mathlib.Core.Bool.{Bool, true, false}
 use Prim.Native.Nat.{ℕ, suc, _≤_, _<_}
 use native.Mathlib.Omega.{arith}
 use lib.Dec.{leb}
-use lib.ListN.{length, take, length-replicate}
+use lib.ListN.{length, take, replicate, length-replicate}
 use lib.Seq.{take-length}
 use borrow.Author.Tests.{leb-true, leb-false}
 use Rattle.protocol.specs.Lists.{All, range}
@@ -14,18 +14,24 @@ use Rattle.protocol.specs.Memory.{Memory}
 use Rattle.protocol.specs.Run.{Ran, Run, run, logAfter}
 use Rattle.protocol.specs.declared.Reader.{Reader}
 use Rattle.protocol.specs.declared.Writer.{Writer}
-use Rattle.page.specs.Store.{Store, readerAt, readersOf, putReaders, Lists16}
+use Rattle.page.specs.Store.{Store, store, readerAt, readersOf, putReaders, Lists16}
 use Rattle.page.specs.Carry.{Here, here, memory, RanHere, ranHere, ranOf, runHere}
 use Rattle.page.specs.declared.Ran.{Ran as Answer}
 use Rattle.page.proofs.Rows.Readers.{length-readers}
 use Rattle.page.proofs.Rows.Put.{putReaders-read, putReaders-lists}
-use Rattle.lent.specs.Store.{zeros, Whole, few, gathered, placed}
+use Rattle.lent.specs.Store.{Whole, few, placed}
 use Rattle.lent.specs.Calls.{lent, RanLent, ranLent, runLent}
 use Rattle.lent.proofs.Laws.Few.{few-all, few-none}
 use Rattle.lent.proofs.Laws.Goes.{run-many, run-leaves}
 
+-- the arrays at first, and with the first k readers of a list
+abbrev pub zeros : Store
+zeros = store (replicate 16 0) (replicate 16 0) (replicate 16 0) (replicate 16 0) (replicate 256 0)
+
+abbrev pub gathered : ℕ → List Reader → Store
+gathered k xs = putReaders (take k xs) zeros
+
 zeros-lists : Lists16 zeros
-unfolding zeros
 zeros-lists = record {
   kinds = length-replicate {A = ℕ} 16 0;
   allowed = length-replicate {A = ℕ} 16 0;
