@@ -6,9 +6,9 @@ use Prim.Native.Nat.{ℕ, _+_, _*_, _≤_, _<_}
 use native.Mathlib.Nat.{mul-le-mul}
 use native.Mathlib.Omega.{arith}
 use lib.ListN.{length}
-use borrow.Author.Tests.{lt-ltb, le-ltb, le-leb, lt-leb}
+use borrow.Author.Tests.{ltb-true, ltb-false, lt-ltb, le-ltb, le-leb, lt-leb}
 use Rattle.radix.specs.Digits.{product}
-use Rattle.radix.specs.Answers.{digitOf}
+use Rattle.radix.specs.Answers.{goodBases, digitOf}
 use Rattle.radix.specs.declared.Digit.{Digit}
 use Rattle.radix.specs.declared.Fault.{Fault}
 use Rattle.protocol.specs.Form.{Form, formOf, goodForm}
@@ -16,11 +16,19 @@ use Rattle.protocol.specs.declared.Format.{Format}
 use Rattle.protocol.specs.declared.Refusal.the-variants.{WrongLength, CountTooLarge}
 use Rattle.protocol.proofs.InRange.{in-range}
 use Rattle.page.proofs.Common.Forms.{good-counts}
-use Rattle.page.proofs.Common.Answers.{is-small, is-large}
+use Rattle.page.proofs.Common.Answers.{isDigit, digit-below}
 use Rattle.report.specs.Header.{number, places, formIn, headerIn, recordAt, recordsAt, commandsAt}
 use Rattle.report.specs.Found.{foundIn, found, foundRest}
 use Rattle.report.specs.declared.header.Header.{Header}
 use Rattle.report.specs.declared.header.Parsed.{Parsed as Found}
+
+-- a count has a first digit exactly if it is below the product
+module _ (bs : List ℕ) (x : ℕ) (good : goodBases bs ≡ true) (some : 0 < length bs) where
+  is-small : (d : ℕ) → digitOf bs 0 x ≡ Digit.Is d → x < product bs
+  is-small d h = ltb-true x (product bs) (sym (digit-below bs 0 x good some) ∙ ap isDigit h)
+
+  is-large : (y : Fault) → digitOf bs 0 x ≡ Digit.Refused y → product bs ≤ x
+  is-large y h = ltb-false x (product bs) (sym (digit-below bs 0 x good some) ∙ ap isDigit h)
 
 -- no more than 65,535 records of at most 256 bytes
 pub records-fit : (k n : ℕ) → k < 65536 → n ≤ 256 → k * n ≤ 16776960

@@ -46,11 +46,11 @@ module _
     answer-is : isWritten r ≡ ltb x (product bs)
     answer-is = ap (λ (y : Into). isWritten (y .answer)) e ∙ written-below bs x (take (length bs) l) good lent
 
-    pub is-small : r ≡ Done → x < product bs
-    is-small is = ltb-true x (product bs) (sym answer-is ∙ ap isWritten is)
+    pub is-written : r ≡ Done → x < product bs
+    is-written is = ltb-true x (product bs) (sym answer-is ∙ ap isWritten is)
 
-    pub is-large : {y : Fault} → r ≡ Written.Refused y → product bs ≤ x
-    is-large is = ltb-false x (product bs) (sym answer-is ∙ ap isWritten is)
+    pub not-written : {y : Fault} → r ≡ Written.Refused y → product bs ≤ x
+    not-written is = ltb-false x (product bs) (sym answer-is ∙ ap isWritten is)
 
     pub first-digits : (n : ℕ) → length bs ≡ n → x < product bs → take n l′ ≡ digits bs x
     first-digits n long low =

@@ -9,7 +9,7 @@ use Rattle.protocol.specs.Form.{Form, formOf}
 use Rattle.protocol.proofs.InRange.{in-range}
 use Rattle.page.specs.Command.{began}
 use Rattle.page.proofs.Common.Forms.{good-counts}
-use Rattle.page.proofs.Laws.Writers.Pending.{is-small, is-large, first-digits, none-pending, count-pending}
+use Rattle.page.proofs.Laws.Writers.Pending.{is-written, not-written, first-digits, none-pending, count-pending}
 use Rattle.page.proofs.Laws.Writers.CountBegins.{count-busy, count-large, count-unread, count-falls}
 use Rattle.page.proofs.Laws.Writers.CountBegins.{count-begins}
 use Rattle.page.proofs.writing.begin_count.Statement.{statement}
@@ -43,7 +43,7 @@ low : (t : tie.After-enum-told) → let a = enter (t .before .before) .args in a
 low t =
     let d = t .before .before in
     let s = enter d in
-    is-small (s .args .bases .now) (s .args .c .0) _ (good-counts (form s) (s .pre .0 .good)) (room d)
+    is-written (s .args .bases .now) (s .args .c .0) _ (good-counts (form s) (s .pre .0 .good)) (room d)
     (d .count-digits .ensures) (t .enum-told .given .1)
 
 enum-told : tie.Need-enum-told
@@ -59,7 +59,7 @@ returns-2 c =
     let s = enter d in
     let rest = d .before .before .if1 .left in (
       count-large (form s) (s .args .page .now) (s .args .w) (s .args .c) (s .pre .0) rest
-          (is-large (s .args .bases .now) (s .args .c .0) _ (good-counts (form s) (s .pre .0 .good))
+          (not-written (s .args .bases .now) (s .args .c .0) _ (good-counts (form s) (s .pre .0 .good))
           (room d) (d .count-digits .ensures) (c .enum-told2 .given .1)),
       none-pending (form s) (s .args .w) _ rest,
     )

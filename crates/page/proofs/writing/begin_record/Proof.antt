@@ -8,7 +8,7 @@ use Rattle.protocol.specs.Form.{Form, formOf, versionBases}
 use Rattle.protocol.proofs.InRange.{in-range}
 use Rattle.page.specs.Command.{began}
 use Rattle.page.proofs.Common.Forms.{good-versions}
-use Rattle.page.proofs.Laws.Writers.Pending.{is-small, is-large, first-digits, none-pending, record-pending}
+use Rattle.page.proofs.Laws.Writers.Pending.{is-written, not-written, first-digits, none-pending, record-pending}
 use Rattle.page.proofs.Laws.Writers.RecordBegins.{
   some-bytes,
   record-absent,
@@ -142,7 +142,7 @@ returns-5 c =
     let s = enter e in (
       record-large (form s) (s .args .records .now) (s .args .page .now) (s .args .w) (s .args .index) (s .pre .0)
           (e .before .if1 .left) (e .if2 .left) (r .read .ensures) (l .first .given .1)
-          (is-large (versionBases (form s)) _ _ (good-versions (form s) (s .pre .0 .good)) (room d)
+          (not-written (versionBases (form s)) _ _ (good-versions (form s) (s .pre .0 .good)) (room d)
           (d .version-digits .ensures) (c .enum-told3 .given .1)),
       none-pending (form s) (s .args .w) _ (e .if2 .left),
     )
@@ -158,7 +158,7 @@ returns-6 c =
     let f = s .args .format in
     let good = good-versions (form s) (s .pre .0 .good) in
     let low =
-    is-small (versionBases (form s)) _ _ good (room d) (d .version-digits .ensures) (c .enum-told2 .given .1) in (
+    is-written (versionBases (form s)) _ _ good (room d) (d .version-digits .ensures) (c .enum-told2 .given .1) in (
       record-begins (form s) (s .args .records .now) (s .args .page .now) (s .args .w) (s .args .index) (s .pre .0)
           (e .before .if1 .left) (e .if2 .left) (r .read .ensures) (l .first .given .1) low,
       record-pending (form s) _ _ refl
