@@ -17,7 +17,7 @@ use Rattle.protocol.specs.declared.Outcome.the-variants.{Nothing, Shown, Accept
 use Rattle.protocol.specs.declared.Refusal.the-variants.{NothingPending, Busy, CopiesCrossed, LogFull}
 use Rattle.page.specs.declared.Answer.{Answer}
 use Rattle.page.specs.declared.Answer.the-variants.{Done, Refused}
-use Rattle.page.specs.declared.reader.Counted.{Counted}
+use Rattle.page.specs.declared.count_read.Counted.{Counted}
 use Rattle.page.specs.Store.{Store, store, putReader, putRow, idleReader}
 
 -- the store after a command, and its answer; the same with the buffers

@@ -3,13 +3,17 @@
 // The readers' states are kept in five lent arrays of sixteen, one entry (of `digits`, sixteen bytes) for each reader.
 mod check;
 mod command;
+mod count_read;
 mod decode;
 mod entry;
 mod opening;
 mod read;
 mod reader;
+mod record_read;
 mod runs;
 mod start;
+mod station;
+mod station_check;
 mod turn;
 mod write;
 mod writing;

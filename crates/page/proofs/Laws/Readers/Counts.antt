@@ -12,7 +12,7 @@ use Rattle.protocol.specs.Form.{Form, m}
 use Rattle.protocol.specs.declared.Outcome.the-variants.{Nothing, Shown}
 use Rattle.protocol.specs.declared.Refusal.the-variants.{CopiesCrossed, LogFull}
 use Rattle.page.specs.declared.Answer.the-variants.{Done, Refused}
-use Rattle.page.specs.declared.reader.Counted.{Counted}
+use Rattle.page.specs.declared.count_read.Counted.{Counted}
 use Rattle.page.specs.Store.{Store}
 use Rattle.page.specs.Reader.{
   stored,
