@@ -11,7 +11,7 @@ use protocol::Format;
 use protocol::Reader;
 use protocol::Writer;
 
-// The run of the one command to cancel a read.
+// The cancel over the arrays, of which nothing is kept.
 pub(crate) fn cancel_gathered(
     readers: usize,
     format: Format,
@@ -33,9 +33,7 @@ pub(crate) fn cancel_gathered(
         (store (now (kinds .entry)) (now (allowed .entry)) (now (finished .entry)) (now (steps .entry))
         (now (digits .entry))) (now (buffers .entry))) who ⌝ }
 {
-    let commands: [u8; 2] = [7, who];
-    let mut log: [u8; 1] = [0];
-    let ran = page::run(
+    page::cancel(
         format,
         bases,
         page,
@@ -48,10 +46,8 @@ pub(crate) fn cancel_gathered(
         digits,
         buffers,
         records,
-        &commands,
-        &mut log[..0],
-    );
-    ran.ending
+        who,
+    )
 }
 
 // A read is cancelled: its reader becomes idle, and its buffer stays as it is.

@@ -6,3 +6,4 @@ pub mod Decodes
 pub mod Checks
 pub mod Openings
 pub mod Turns
+pub mod Cancels

@@ -115,6 +115,17 @@ runHere F S k h s log =
     let x = run F S (memory k h) (record { given = s; log = log }) in
     ranHere (ranOf (x .events) (x .ending) (x .memory .writer)) (over (x .memory) h) (logAfter (x .events) log)
 
+-- a cancelled read: the run of the one command 07, with no log
+pub record CancelledHere : Type 0 where
+  pub ending : Ending
+  pub here : Here
+
+abbrev pub cancelledHere : Ending → Here → CancelledHere
+cancelledHere e h = record { ending = e; here = h }
+
+unfoldable pub cancelHere : Form → List ℕ → (readers : ℕ) → Here → (who : ℕ) → CancelledHere
+cancelHere F S k h who = let x = runHere F S k h (7 ∷ who ∷ []) [] in cancelledHere (x .ran .ending) (x .here)
+
 -- DEMAND 3 FOR THE CALLER: whatever list of runs from an accepted opening left what is lent now, the claim holds of
 -- that list with this run added
 abbrev pub Carries : Form → List ℕ → Memory → Run → Type 0

@@ -1,6 +1,7 @@
-// The page library: the opening, the seven commands and the run, in forms that the borrow checker covers.
+// The page library: the opening, the seven commands, the run and a cancel, in forms that the borrow checker covers.
 //
 // The readers' states are kept in five lent arrays of sixteen, one entry (of `digits`, sixteen bytes) for each reader.
+mod cancelling;
 mod check;
 mod command;
 mod count_read;
@@ -18,6 +19,7 @@ mod turn;
 mod write;
 mod writing;
 
+pub use cancelling::cancel;
 pub use check::good_format;
 pub use opening::open;
 use protocol::Ending;
