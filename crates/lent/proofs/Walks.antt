@@ -6,17 +6,19 @@ pub mod Kept
 pub mod Rooms
 pub mod Flat
 pub mod Locals
+pub mod Upto
 pub mod Both
 pub mod Tests
 pub mod Clears
 pub mod Finishes
-pub mod Shared
 pub mod Several
 pub mod Arrays
 pub mod Ahead
 pub mod Zeros
 pub mod Again
+pub mod Points
 pub mod Call
+pub mod Values
 pub mod Puts
 pub mod Takes
 pub mod Few
@@ -28,4 +30,3 @@ pub mod Ends
 pub mod Places
 pub mod CancelCore
 pub mod Empties
-pub mod Element

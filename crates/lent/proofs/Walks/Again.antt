@@ -29,7 +29,8 @@ module _ {M : Type 1} (𝓤 : URA M) (H : Heap 𝓤) (A : Atoms 𝓤) where
   again s i j x y z Γ = put 𝓤 H A s x (put 𝓤 H A i y (put 𝓤 H A j z (less s i j Γ)))
 
 module _ {M : Type 1} {𝓤 : URA M} {H : Heap 𝓤} {A : Atoms 𝓤} {K : Type 0} {W : Given 𝓤 H A} {Γ : List (Item 𝓤)} where
-  found :
+  -- the place that is reached from a local whose spot is known
+  pub found :
       K → {E : Env 𝓤 H} {i : ℕ} {st : List PStep} {sp sp′ : Spot 𝓤 H} → spotOf 𝓤 H E i ≡ sp → Walks K W Γ E sp st sp′ →
       Finds K W Γ E (place i st) sp′
   found t {E} {i} {st} {sp} {sp′} e w = from t (subst (λ (z : Spot 𝓤 H). Walks K W Γ E z st sp′) (sym e) w)

@@ -1,53 +1,27 @@
--- The idle reader is a value of its type: what whoever stores one owes, and that its machine value is well typed.
+-- A reader's machine values; that the idle reader is a value of its type; and that one that is has sixteen digits.
 use mathlib.Core.Path.{_≡_, refl, sym, _∙_}
-use Prim.Native.Nat.{ℕ, zero, suc}
-use mathlib.Core.List.{List, map}
-use lib.ListN.{length, replicate, length-map}
+use mathlib.Core.List.{List}
+use lib.ListN.{length, length-map}
 use lib.Dec.{lit<}
 use mir.Syntax.{w8}
-use mir.Val.{Val, vint}
-use denote.Array.{each}
-use denote.Builtin.{u8}
+use mir.Val.{Val}
 use denote.Laws.{Is}
-use denote.Shadow.{shadow}
 use denote.Struct.Laws as LL
 use Rattle.protocol.specs.declared.Reader.{Reader}
 use Rattle.protocol.proofs.Reader as T
 use Rattle.protocol.proofs.Reader.Laws as T′
 use Rattle.page.specs.Store.{idleReader}
+use Rattle.lent.proofs.Walks.Flat.{_&_}
+use Rattle.lent.proofs.Walks.Zeros.{is-blank}
 
 abbrev pub vals : Reader → List Val
 vals = LL.vals T.the-type T′.the-laws
 
--- n zeros are n bytes
-zeros : (n : ℕ) → shadow (each ℕ (u8 .own) (replicate n 0) (map (λ x. vint w8 x) (replicate n 0)))
-zeros zero = tt
-zeros (suc n) = ((refl, lit< tt), zeros n)
-
 pub made : Is T.the-row idleReader (vals idleReader)
 made =
-    LL.owes T.the-type T′.the-laws idleReader (
-      (refl, lit< tt),
-      (
-        (refl, lit< tt),
-        (
-          (refl, lit< tt),
-          (
-            (refl, lit< tt),
-            (
-              (
-                map (λ x. vint w8 x)
-                    (replicate 16 0),
-                ((refl, refl), zeros 16),
-              ),
-              tt,
-            ),
-          ),
-        ),
-      ),
-    )
+    LL.owes T.the-type T′.the-laws idleReader
+    ((refl, lit< tt) & (refl, lit< tt) & (refl, lit< tt) & (refl, lit< tt) & is-blank w8 tt 16 & tt)
 
--- a reader that is a value of its type has sixteen digits
 pub whole-of : (x : Reader) (vs : List Val) → Is T.the-row x vs → length (x .digits) ≡ 16
-whole-of x vs is = sym (length-map (x .digits)
-    (λ v. v)) ∙ LL.owed T.the-type T′.the-laws x vs is .1 .1 .1 .1 .0 .1 .0 .1
+whole-of x vs is =
+    sym (length-map (x .digits) (λ v. v)) ∙ LL.owed T.the-type T′.the-laws x vs is .1 .1 .1 .1 .0 .1 .0 .1

@@ -37,7 +37,9 @@ each-zero : (w : Width) → Holds (ltb 0 (2 ^ bits w)) → (k : ℕ)
 each-zero w z zero = tt
 each-zero w z (suc k) = ((refl, ltb→lt 0 (2 ^ bits w) z), each-zero w z k)
 
-is-blank : (w : Width) → Holds (ltb 0 (2 ^ bits w)) → (k : ℕ) → Is (Array (UInt w) k) (replicate k 0) (blank w k ∷ [])
+-- an array of zeros is a value of its type
+pub is-blank : (w : Width) → Holds (ltb 0 (2 ^ bits w)) → (k : ℕ)
+    → Is (Array (UInt w) k) (replicate k 0) (blank w k ∷ [])
 is-blank w z k = (replicate k (vint w 0), ((refl, length-replicate k 0), each-zero w z k))
 
 module _ {M : Type 1} (𝓤 : URA M) (H : Heap 𝓤) (A : Atoms 𝓤) (W : Given 𝓤 H A) where

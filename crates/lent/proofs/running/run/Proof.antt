@@ -20,8 +20,8 @@ use ghost.Atoms.{Atoms}
 use contract.Monad.{Fun}
 use contract.Lifetimes.{Lfts, Shares, toks}
 use contract.Running.{givenOf, tables, tablesOf}
-use types.Kit.{Given, Item, ‵, raw, given, some, runs, atRet, Sq, _⊛_, ⋆, _$_, _∵_, !, qed, by, move, drop}
-use types.Kit.{group, split, join, pick, learn, fsplit, fjoin, suffices, frame, done}
+use types.Kit.{Given, Item, ‵, raw, given, some, runs, atRet, Sq, _⊛_, ⋆, _$_, _∵_, !, qed, by, move, drop, group}
+use types.Kit.{split, join, pick, learn, fsplit, fjoin, suffices, frame, done}
 use types.Run.{look, init, forget, stop, fld, from, load, of-opd, no-more, assigns, land}
 use types.Part.{whole, sub, look-in}
 use sound.WpLaws.{FmC, fmOf, WpFn-mono}
@@ -29,7 +29,7 @@ use denote.RattleType.{RattleType, owns}
 use denote.Laws.{Is, Ises, Are}
 use denote.Builtin.{u8, u16}
 use denote.Ref.{RefT}
-use denote.Slice.{sliceVal, Room, finally, slice-vals, mut-slice-tells, shr-slice-tells}
+use denote.Slice.{Room, finally, slice-vals, mut-slice-tells, shr-slice-tells}
 use denote.Signature.{plain, shrSliceOf, typesAt}
 use denote.Steps.{nothing, owned}
 use denote.Struct.Laws as LL
@@ -59,13 +59,13 @@ use Rattle.lent.proofs.Laws.Few.{few-fits}
 use Rattle.lent.proofs.Laws.Runs.{gathered, ran-lent}
 use Rattle.lent.proofs.Walks.Both.{says-both}
 use Rattle.lent.proofs.Walks.Flat.{_&_}
-use Rattle.lent.proofs.Walks.Locals.{Slot, free, has, out, spread, locals, wide, enters, leaves, arg}
+use Rattle.lent.proofs.Walks.Locals.{Slot, free, has, out, spread, locals, the, wide, enters, leaves, arg}
 use Rattle.lent.proofs.Walks.Again.{lends-on, borrows}
 use Rattle.lent.proofs.Walks.Zeros.{zeros as makes-zeros, lays-down}
-use Rattle.lent.proofs.Walks.Several.{Spots, made, whole as all-of, alive, lie, last, lends-muts, lends-shrs}
-use Rattle.lent.proofs.Walks.Several.{muts-back, shrs-back}
+use Rattle.lent.proofs.Walks.Several.{Spots, made, whole as all-of, alive, lie, last, lends-muts}
+use Rattle.lent.proofs.Walks.Several.{lends-shrs, muts-back, shrs-back}
 use Rattle.lent.proofs.Walks.Arrays.{five, parts}
-use Rattle.lent.proofs.Walks.Shared.{Own}
+use Rattle.lent.proofs.Walks.Kept.{Own}
 use Rattle.lent.proofs.Walks.Few.{Fews, to-few, goes-few, few-gives}
 use Rattle.lent.proofs.Walks.Call.{calls-with, answers}
 use Rattle.lent.proofs.Walks.Gathers.{Gathers}
@@ -95,10 +95,6 @@ stayed =
     gave-slice (0 ∷ []) tt (plain (λ _. R)) & stay-dropped _ yes & stay-dropped _ yes &
     gave-slice (2 ∷ []) tt (plain (λ _. u8)) & stay-dropped _ yes & gave-slice (3 ∷ []) tt (plain (λ _. u8)) &
     stay-dropped _ yes & stay-dropped _ yes & gave-slice (6 ∷ []) tt (plain (λ _. u8)) & tt
-
--- the machine value of a lent list
-abbrev the : {X : Type 0} → RefT (List X) → Val
-the x = sliceVal (x .ptr) (length (x .now))
 
 module _ {M : Type 1} (𝓤 : URA M) (H : Heap 𝓤) (A : Atoms 𝓤) (W : Given 𝓤 H A) (mem : Memory → SProp 𝓤)
     (run : Routine → Fun 𝓤) (κs : Lfts 7) (qs : Shares 7) (a : Args f.signature κs) where
@@ -147,7 +143,7 @@ module _ {M : Type 1} (𝓤 : URA M) (H : Heap 𝓤) (A : Atoms 𝓤) (W : Given
 
   -- what stands for the readers; what else stands before the core runs, and what after it; what stands at exit
   abbrev Mine : List (Item 𝓤) → List (Item 𝓤)
-  Mine Γ = ‵ (flft (κs .0) (qs .0)) ∷ ‵ (Own R (κs .0) (qs .0) (a .0)) ∷ Γ
+  Mine Γ = ‵ (flft (κs .0) (qs .0)) ∷ ‵ (Own R (κs .0) (a .0)) ∷ Γ
 
   abbrev Begun : List (Item 𝓤)
   Begun = raw Tokens ∷ ‵ (Rest (a .1) (κs .1)) ∷ []
