@@ -1,7 +1,7 @@
--- What the proofs by hand share: structs behind references, and what each function that is called asks and gives.
+-- What the proofs by hand share: structs behind references, entries of a context, and calls.
+pub mod Lent
 pub mod Loads
 pub mod Stores
+pub mod Apart
+pub mod Facts
 pub mod Ending
-pub mod Cancels
-pub mod Opens
-pub mod Runs
