@@ -1,32 +1,4 @@
--- What the proofs by hand share: locals, loans, and for each function that is called what it asks and what it gives.
-pub mod After
-pub mod Elem
-pub mod Made
-pub mod Kept
-pub mod Rooms
-pub mod Flat
-pub mod Locals
-pub mod Upto
-pub mod Both
-pub mod Tests
-pub mod Clears
-pub mod Finishes
-pub mod Several
-pub mod Arrays
-pub mod Ahead
-pub mod Zeros
-pub mod Again
-pub mod Points
-pub mod Call
-pub mod Values
-pub mod Puts
-pub mod Takes
-pub mod Few
-pub mod Gathers
-pub mod Gathering
-pub mod Scatters
-pub mod Core
-pub mod Ends
-pub mod Places
-pub mod CancelCore
-pub mod Empties
+-- What the proofs by hand share: Rules are the steps of a walk, Calls is for each function that is called what it asks
+-- and what it gives.
+pub mod Rules
+pub mod Calls

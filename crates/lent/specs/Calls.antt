@@ -69,6 +69,6 @@ pub record EndedHere : Type 0 where
 abbrev pub endedHere : Ending → (page buffers : List ℕ) → EndedHere
 endedHere e p b = record { ending = e; page = p; buffers = b }
 
-unfoldable pub cancelHere : Form → (records : List ℕ) → (readers : ℕ) → Here → (who : ℕ) → EndedHere
-cancelHere F S n h who =
+unfoldable pub cancelEnds : Form → (records : List ℕ) → (readers : ℕ) → Here → (who : ℕ) → EndedHere
+cancelEnds F S n h who =
     let x = runHere F S n h (7 ∷ who ∷ []) [] in endedHere (x .ran .ending) (x .here .page) (x .here .buffers)

@@ -3,7 +3,7 @@ ghost use mathlib.Core.Path.{_≡_};
 ghost use Rattle.protocol.specs.Form.{formOf};
 ghost use Rattle.page.specs.Carry.{here};
 ghost use Rattle.page.specs.Store.{store};
-ghost use Rattle.lent.specs.Calls.{lent, endedHere, cancelHere, endedLent, cancelLent};
+ghost use Rattle.lent.specs.Calls.{lent, endedHere, cancelEnds, endedLent, cancelLent};
 use crate::opening;
 use crate::slice;
 use protocol::Ending;
@@ -28,7 +28,7 @@ pub(crate) fn cancel_gathered(
     who: u8,
 ) -> Ending
     ensures { λ r. ⌜ endedHere r (now (page .exit)) (now (buffers .exit))
-        ≡ cancelHere (formOf (now (bases .entry)) format) (now (records .entry)) readers
+        ≡ cancelEnds (formOf (now (bases .entry)) format) (now (records .entry)) readers
         (here (now (page .entry)) writer
         (store (now (kinds .entry)) (now (allowed .entry)) (now (finished .entry)) (now (steps .entry))
         (now (digits .entry))) (now (buffers .entry))) who ⌝ }

@@ -17,8 +17,8 @@ use Rattle.protocol.proofs.Format.Laws as TF′
 use Rattle.protocol.proofs.Writer as TW
 use Rattle.protocol.proofs.Writer.Laws as TW′
 use Rattle.lent.specs.Calls.{lent}
-use Rattle.lent.proofs.Walks.Flat.{_&_}
-use Rattle.lent.proofs.Walks.Locals.{Slot, has}
+use Rattle.lent.proofs.Walks.Rules.Flat.{_&_}
+use Rattle.lent.proofs.Walks.Rules.Locals.{Slot, has}
 
 -- the machine value of a lent list, and of a lent struct
 abbrev pub the : {X : Type 0} → RefT (List X) → Val

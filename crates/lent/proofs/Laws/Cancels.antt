@@ -30,7 +30,7 @@ use Rattle.page.specs.Store.{idleReader}
 use Rattle.page.specs.Carry.{here, runHere}
 use Rattle.page.proofs.Common.Tests.{never}
 use Rattle.lent.specs.Store.{Whole, few}
-use Rattle.lent.specs.Calls.{lent, finishes, RanLent, runLent, EndedHere, endedHere, cancelHere, endedLent}
+use Rattle.lent.specs.Calls.{lent, finishes, RanLent, runLent, EndedHere, endedHere, cancelEnds, endedLent}
 use Rattle.lent.specs.Calls.{cancelLent}
 use Rattle.lent.proofs.Laws.Goes.{Goes, refuses, starts, run-goes}
 use Rattle.lent.proofs.Laws.Runs.{gathered, ran-lent}
@@ -133,7 +133,7 @@ module _
     (r : Ending)
     (p′ b′ : List ℕ)
     (whole : All Whole (take (few (length xs)) xs))
-    (e : endedHere r p′ b′ ≡ cancelHere F S (length xs) (here p w (gathered (few (length xs)) xs) b) who)
+    (e : endedHere r p′ b′ ≡ cancelEnds F S (length xs) (here p w (gathered (few (length xs)) xs) b) who)
   where
     abbrev L : Memory
     L = lent p w xs b
@@ -143,7 +143,7 @@ module _
 
     -- the run over the slice says the same
     said : endedHere r p′ b′ ≡ endedHere (x .ending) (x .memory .page) (x .memory .buffers)
-    unfolding cancelHere runHere runLent
+    unfolding cancelEnds runHere runLent
     said =
         let c = runHere F S (length xs) (here p w (gathered (few (length xs)) xs) b) (7 ∷ who ∷ []) [] in
         e

@@ -44,10 +44,10 @@ use Rattle.protocol.proofs.Format.Laws as TF′
 use Rattle.protocol.proofs.Writer as TW
 use Rattle.protocol.proofs.Writer.Laws as TW′
 use Rattle.lent.specs.Calls.{endedLent, cancelLent}
-use Rattle.lent.proofs.Walks.Flat.{_&_}
-use Rattle.lent.proofs.Walks.Locals.{Slot, has, spread, wide, enters, leaves, arg}
-use Rattle.lent.proofs.Walks.Again.{lends-on}
-use Rattle.lent.proofs.Walks.Ends.{typed-ending}
+use Rattle.lent.proofs.Walks.Rules.Flat.{_&_}
+use Rattle.lent.proofs.Walks.Rules.Locals.{Slot, has, spread, wide, enters, leaves, arg}
+use Rattle.lent.proofs.Walks.Rules.Again.{lends-on}
+use Rattle.lent.proofs.Walks.Calls.Ended.{typed-ending}
 use Rattle.lagumtay.proofs.Laws.Cancels.{cancelled}
 use Rattle.lagumtay.proofs.Walks.Lent.{the, in-order, format, writer, form, memory, vals, params, held, loaded}
 use Rattle.lagumtay.proofs.Walks.Lent.{lent-on, handed, handed-vals, last-readers, last-page, last-buffers}

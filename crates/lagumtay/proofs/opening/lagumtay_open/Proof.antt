@@ -54,11 +54,11 @@ use Rattle.page.specs.declared.Opened.{Opened}
 use Rattle.page.proofs.Opened as TO
 use Rattle.page.proofs.Opened.Laws as TO′
 use Rattle.lent.specs.Calls.{openedLent, openLent}
-use Rattle.lent.proofs.Walks.Flat.{_&_}
-use Rattle.lent.proofs.Walks.Locals.{Slot, has, spread, wide, enters, leaves, arg}
-use Rattle.lent.proofs.Walks.Again.{lends-on}
-use Rattle.lent.proofs.Walks.Finishes.{typed-opened}
-use Rattle.lent.proofs.Walks.Ends.{typed-ending}
+use Rattle.lent.proofs.Walks.Rules.Flat.{_&_}
+use Rattle.lent.proofs.Walks.Rules.Locals.{Slot, has, spread, wide, enters, leaves, arg}
+use Rattle.lent.proofs.Walks.Rules.Again.{lends-on}
+use Rattle.lent.proofs.Walks.Calls.Finished.{typed-opened}
+use Rattle.lent.proofs.Walks.Calls.Ended.{typed-ending}
 use Rattle.lagumtay.proofs.Laws.Opens.{opened-left}
 use Rattle.lagumtay.proofs.Walks.Lent.{the, in-order, format, writer, form, memory, vals, params, held}
 use Rattle.lagumtay.proofs.Walks.Lent.{loaded, lent-on, handed, handed-vals, last-readers, last-page}

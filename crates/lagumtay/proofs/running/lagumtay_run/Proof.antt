@@ -49,10 +49,10 @@ use Rattle.page.specs.declared.Ran.{Ran}
 use Rattle.page.proofs.Ran as TR
 use Rattle.page.proofs.Ran.Laws as TR′
 use Rattle.lent.specs.Calls.{ranLent, runLent}
-use Rattle.lent.proofs.Walks.Both.{says-both}
-use Rattle.lent.proofs.Walks.Flat.{_&_}
-use Rattle.lent.proofs.Walks.Locals.{Slot, has, spread, wide, enters, leaves, arg}
-use Rattle.lent.proofs.Walks.Again.{lends-on}
+use Rattle.lent.proofs.Walks.Rules.Both.{says-both}
+use Rattle.lent.proofs.Walks.Rules.Flat.{_&_}
+use Rattle.lent.proofs.Walks.Rules.Locals.{Slot, has, spread, wide, enters, leaves, arg}
+use Rattle.lent.proofs.Walks.Rules.Again.{lends-on}
 use Rattle.lent.proofs.run as g
 use Rattle.lent.proofs.run.Symbol as run-def
 use Rattle.lent.proofs.run.Symbol.{name as #lent·run}

@@ -62,26 +62,26 @@ use Rattle.lent.specs.Calls.{lent, finishes, endedLent, cancelLent}
 use Rattle.lent.proofs.Laws.Few.{few-fits}
 use Rattle.lent.proofs.Laws.Runs.{gathered}
 use Rattle.lent.proofs.Laws.Cancels.{cancel-finished, cancel-refused}
-use Rattle.lent.proofs.Walks.Kept.{Own, kept-slice, obs-ends}
-use Rattle.lent.proofs.Walks.Tests.{holds-true, holds-false}
-use Rattle.lent.proofs.Walks.Flat.{_&_}
-use Rattle.lent.proofs.Walks.Locals.{Slot, free, has, out, spread, locals, the, wide, enters, leaves, arg}
-use Rattle.lent.proofs.Walks.Again.{lends-on, borrows}
-use Rattle.lent.proofs.Walks.Zeros.{zeros as makes-zeros, lays-down}
-use Rattle.lent.proofs.Walks.Several.{Spots, made, whole as all-of, alive, lie, last, lends-muts}
-use Rattle.lent.proofs.Walks.Several.{muts-back}
-use Rattle.lent.proofs.Walks.Arrays.{five, parts}
-use Rattle.lent.proofs.Walks.Elem.{elem, lends-elem, elem-back}
-use Rattle.lent.proofs.Walks.Points.{points}
-use Rattle.lent.proofs.Walks.Call.{calls-with, calls-with-last, answers, answers-last}
-use Rattle.lent.proofs.Walks.Few.{Fews, to-few, goes-few, few-gives}
-use Rattle.lent.proofs.Walks.Gathers.{Gathers}
-use Rattle.lent.proofs.Walks.Gathering.{gathers}
-use Rattle.lent.proofs.Walks.Places.{Places, to-place, goes-place, place-gives}
-use Rattle.lent.proofs.Walks.CancelCore.{Answer, Told, Rest, Cancellers, to-cancel, goes-cancel}
-use Rattle.lent.proofs.Walks.CancelCore.{cancel-gives}
-use Rattle.lent.proofs.Walks.Ends.{Ends, to-ended, goes-ended, ended-gives, typed-ending}
-use Rattle.lent.proofs.Walks.Empties.{Empties, to-empty, goes-empty, empty-gives}
+use Rattle.lent.proofs.Walks.Rules.Kept.{Own, kept-slice, obs-ends}
+use Rattle.lent.proofs.Walks.Rules.Tests.{holds-true, holds-false}
+use Rattle.lent.proofs.Walks.Rules.Flat.{_&_}
+use Rattle.lent.proofs.Walks.Rules.Locals.{Slot, free, has, out, spread, locals, the, wide, enters, leaves, arg}
+use Rattle.lent.proofs.Walks.Rules.Again.{lends-on, borrows}
+use Rattle.lent.proofs.Walks.Rules.Zeros.{zeros as makes-zeros, lays-down}
+use Rattle.lent.proofs.Walks.Rules.Several.{Spots, made, whole as all-of, alive, lie, last, lends-muts}
+use Rattle.lent.proofs.Walks.Rules.Several.{muts-back}
+use Rattle.lent.proofs.Walks.Rules.Arrays.{five, parts}
+use Rattle.lent.proofs.Walks.Rules.Elem.{elem, lends-elem, elem-back}
+use Rattle.lent.proofs.Walks.Rules.Points.{points}
+use Rattle.lent.proofs.Walks.Rules.Call.{calls-with, calls-with-last, answers, answers-last}
+use Rattle.lent.proofs.Walks.Calls.FewOf.{Fews, to-few, goes-few, few-gives}
+use Rattle.lent.proofs.Walks.Calls.Gather.{Gathers}
+use Rattle.lent.proofs.Walks.Calls.Gathering.{gathers}
+use Rattle.lent.proofs.Walks.Calls.PlaceOf.{Places, to-place, goes-place, place-gives}
+use Rattle.lent.proofs.Walks.Calls.CancelGathered.{Answer, Told, Rest, Cancellers, to-cancel, goes-cancel}
+use Rattle.lent.proofs.Walks.Calls.CancelGathered.{cancel-gives}
+use Rattle.lent.proofs.Walks.Calls.Ended.{Ends, to-ended, goes-ended, ended-gives, typed-ending}
+use Rattle.lent.proofs.Walks.Calls.Empty.{Empties, to-empty, goes-empty, empty-gives}
 use Rattle.lent.proofs.slice.few_of.Symbol as few-def
 use Rattle.lent.proofs.slice.few_of.Symbol.{name as #lent·few-of}
 use Rattle.lent.proofs.slice.few_of.Met as few-thm

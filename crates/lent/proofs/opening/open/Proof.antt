@@ -53,15 +53,15 @@ use Rattle.page.proofs.Opened as TO
 use Rattle.page.proofs.Opened.Laws as TO′
 use Rattle.lent.specs.Calls.{finishes}
 use Rattle.lent.proofs.Laws.Opened.{opened-finished, opened-refused}
-use Rattle.lent.proofs.Walks.Flat.{_&_}
-use Rattle.lent.proofs.Walks.Locals.{Slot, free, has, spread, locals, the, wide, enters, leaves, arg}
-use Rattle.lent.proofs.Walks.Again.{lends-on}
-use Rattle.lent.proofs.Walks.Call.{calls-with, calls-with-last, answers, answers-last}
-use Rattle.lent.proofs.Walks.Tests.{holds-true, holds-false}
-use Rattle.lent.proofs.Walks.Kept.{Own, kept-slice}
+use Rattle.lent.proofs.Walks.Rules.Flat.{_&_}
+use Rattle.lent.proofs.Walks.Rules.Locals.{Slot, free, has, spread, locals, the, wide, enters, leaves, arg}
+use Rattle.lent.proofs.Walks.Rules.Again.{lends-on}
+use Rattle.lent.proofs.Walks.Rules.Call.{calls-with, calls-with-last, answers, answers-last}
+use Rattle.lent.proofs.Walks.Rules.Tests.{holds-true, holds-false}
+use Rattle.lent.proofs.Walks.Rules.Kept.{Own, kept-slice}
 use Rattle.lent.proofs.opening.open.Proof.Idle.{Answer, Says, Told, Idles, to-idle, goes-idle, idle-gives}
-use Rattle.lent.proofs.Walks.Finishes.{Finishes, to-finished, goes-finished, finished-gives, typed-opened}
-use Rattle.lent.proofs.Walks.Clears.{Clears, to-clear, goes-clear, clear-gives}
+use Rattle.lent.proofs.Walks.Calls.Finished.{Finishes, to-finished, goes-finished, finished-gives, typed-opened}
+use Rattle.lent.proofs.Walks.Calls.Clear.{Clears, to-clear, goes-clear, clear-gives}
 use Rattle.lent.proofs.slice.clear.Symbol as clear-def
 use Rattle.lent.proofs.slice.clear.Symbol.{name as #lent·clear}
 use Rattle.lent.proofs.slice.clear.Met as clear-thm

@@ -57,21 +57,21 @@ use Rattle.page.proofs.run.Met as core-thm
 use Rattle.lent.specs.Store.{Whole, few, placed}
 use Rattle.lent.proofs.Laws.Few.{few-fits}
 use Rattle.lent.proofs.Laws.Runs.{gathered, ran-lent}
-use Rattle.lent.proofs.Walks.Both.{says-both}
-use Rattle.lent.proofs.Walks.Flat.{_&_}
-use Rattle.lent.proofs.Walks.Locals.{Slot, free, has, out, spread, locals, the, wide, enters, leaves, arg}
-use Rattle.lent.proofs.Walks.Again.{lends-on, borrows}
-use Rattle.lent.proofs.Walks.Zeros.{zeros as makes-zeros, lays-down}
-use Rattle.lent.proofs.Walks.Several.{Spots, made, whole as all-of, alive, lie, last, lends-muts}
-use Rattle.lent.proofs.Walks.Several.{lends-shrs, muts-back, shrs-back}
-use Rattle.lent.proofs.Walks.Arrays.{five, parts}
-use Rattle.lent.proofs.Walks.Kept.{Own}
-use Rattle.lent.proofs.Walks.Few.{Fews, to-few, goes-few, few-gives}
-use Rattle.lent.proofs.Walks.Call.{calls-with, answers}
-use Rattle.lent.proofs.Walks.Gathers.{Gathers}
-use Rattle.lent.proofs.Walks.Gathering.{gathers}
-use Rattle.lent.proofs.Walks.Core.{Answer, Told, Rest, Cores, to-core, goes-core, core-gives}
-use Rattle.lent.proofs.Walks.Scatters.{Scatters, to-scatter, goes-scatter, scatter-gives}
+use Rattle.lent.proofs.Walks.Rules.Both.{says-both}
+use Rattle.lent.proofs.Walks.Rules.Flat.{_&_}
+use Rattle.lent.proofs.Walks.Rules.Locals.{Slot, free, has, out, spread, locals, the, wide, enters, leaves, arg}
+use Rattle.lent.proofs.Walks.Rules.Again.{lends-on, borrows}
+use Rattle.lent.proofs.Walks.Rules.Zeros.{zeros as makes-zeros, lays-down}
+use Rattle.lent.proofs.Walks.Rules.Several.{Spots, made, whole as all-of, alive, lie, last, lends-muts}
+use Rattle.lent.proofs.Walks.Rules.Several.{lends-shrs, muts-back, shrs-back}
+use Rattle.lent.proofs.Walks.Rules.Arrays.{five, parts}
+use Rattle.lent.proofs.Walks.Rules.Kept.{Own}
+use Rattle.lent.proofs.Walks.Calls.FewOf.{Fews, to-few, goes-few, few-gives}
+use Rattle.lent.proofs.Walks.Rules.Call.{calls-with, answers}
+use Rattle.lent.proofs.Walks.Calls.Gather.{Gathers}
+use Rattle.lent.proofs.Walks.Calls.Gathering.{gathers}
+use Rattle.lent.proofs.Walks.Calls.Run.{Answer, Told, Rest, Cores, to-core, goes-core, core-gives}
+use Rattle.lent.proofs.Walks.Calls.Scatter.{Scatters, to-scatter, goes-scatter, scatter-gives}
 use Rattle.lent.proofs.slice.few_of.Symbol as few-def
 use Rattle.lent.proofs.slice.few_of.Symbol.{name as #lent·few-of}
 use Rattle.lent.proofs.slice.few_of.Met as few-thm

@@ -44,14 +44,14 @@ use Rattle.page.specs.Store.{idleReader}
 use Rattle.protocol.specs.declared.Reader.{Reader}
 use Rattle.protocol.proofs.Reader as T
 use Rattle.lent.proofs.Laws.Cleared.{clearTo, clear-length, clear-next, clear-all}
-use Rattle.lent.proofs.Walks.Flat.{_&_}
-use Rattle.lent.proofs.Walks.After.{after}
-use Rattle.lent.proofs.Walks.Locals.{Slot, free, has, spread, locals, the, wide, enters, leaves, arg}
-use Rattle.lent.proofs.Walks.Upto as count
-use Rattle.lent.proofs.Walks.Points.{points}
-use Rattle.lent.proofs.Walks.Call.{calls-with, answers}
-use Rattle.lent.proofs.Walks.Elem.{elem, lends-elem, elem-back}
-use Rattle.lent.proofs.Walks.Empties.{Empties, to-empty, goes-empty, empty-gives}
+use Rattle.lent.proofs.Walks.Rules.Flat.{_&_}
+use Rattle.lent.proofs.Walks.Rules.After.{after}
+use Rattle.lent.proofs.Walks.Rules.Locals.{Slot, free, has, spread, locals, the, wide, enters, leaves, arg}
+use Rattle.lent.proofs.Walks.Rules.Upto as count
+use Rattle.lent.proofs.Walks.Rules.Points.{points}
+use Rattle.lent.proofs.Walks.Rules.Call.{calls-with, answers}
+use Rattle.lent.proofs.Walks.Rules.Elem.{elem, lends-elem, elem-back}
+use Rattle.lent.proofs.Walks.Calls.Empty.{Empties, to-empty, goes-empty, empty-gives}
 use Rattle.lent.proofs.slice.empty.Symbol as g-def
 use Rattle.lent.proofs.slice.empty.Symbol.{name as #lent·empty}
 use Rattle.lent.proofs.slice.empty.Met as g-thm

@@ -37,9 +37,9 @@ use Rattle.page.specs.Store.{idleReader}
 use Rattle.protocol.specs.declared.Reader.{Reader}
 use Rattle.protocol.proofs.Reader as T
 use Rattle.protocol.proofs.Reader.Laws as T′
-use Rattle.lent.proofs.Walks.Flat.{_&_}
-use Rattle.lent.proofs.Walks.Locals.{has, spread, enters, leaves, arg}
-use Rattle.lent.proofs.Walks.Made.{vals, made}
+use Rattle.lent.proofs.Walks.Rules.Flat.{_&_}
+use Rattle.lent.proofs.Walks.Rules.Locals.{has, spread, enters, leaves, arg}
+use Rattle.lent.proofs.Walks.Rules.Made.{vals, made}
 use Rattle.lent.proofs.slice.empty.Key.{name as #lent·empty}
 use Rattle.lent.proofs.slice.empty as f
 use Rattle.lent.proofs.slice.empty.Statement as stated

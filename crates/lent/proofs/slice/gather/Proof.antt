@@ -51,18 +51,18 @@ use Rattle.protocol.proofs.Reader.Laws as T′
 use Rattle.page.specs.Store.{Store, store as stored, idleReader, putReader, putReaders}
 use Rattle.lent.specs.Store.{Whole}
 use Rattle.lent.proofs.Laws.Gathers.{gather-next, whole-next}
-use Rattle.lent.proofs.Walks.After.{after}
-use Rattle.lent.proofs.Walks.Flat.{_&_}
-use Rattle.lent.proofs.Walks.Upto as count
-use Rattle.lent.proofs.Walks.Points.{points}
-use Rattle.lent.proofs.Walks.Call.{calls-with, answers}
-use Rattle.lent.proofs.Walks.Made.{vals, whole-of}
-use Rattle.lent.proofs.Walks.Locals.{Slot, free, has, locals, spread, wide, enters, leaves, arg}
-use Rattle.lent.proofs.Walks.Several.{Each, Spots, made, alive, lie, Refs, refs, addrs, ptrs, names, spots}
-use Rattle.lent.proofs.Walks.Several.{muts, last, opened, whole as wholes, lends-muts, muts-back}
-use Rattle.lent.proofs.Walks.Several.{opens-muts, closes-muts}
-use Rattle.lent.proofs.Walks.Arrays.{five, parts}
-use Rattle.lent.proofs.Walks.Puts.{Puts, to-put, goes-put, put-gives}
+use Rattle.lent.proofs.Walks.Rules.After.{after}
+use Rattle.lent.proofs.Walks.Rules.Flat.{_&_}
+use Rattle.lent.proofs.Walks.Rules.Upto as count
+use Rattle.lent.proofs.Walks.Rules.Points.{points}
+use Rattle.lent.proofs.Walks.Rules.Call.{calls-with, answers}
+use Rattle.lent.proofs.Walks.Rules.Made.{vals, whole-of}
+use Rattle.lent.proofs.Walks.Rules.Locals.{Slot, free, has, locals, spread, wide, enters, leaves, arg}
+use Rattle.lent.proofs.Walks.Rules.Several.{Each, Spots, made, alive, lie, Refs, refs, addrs, ptrs, names, spots}
+use Rattle.lent.proofs.Walks.Rules.Several.{muts, last, opened, whole as wholes, lends-muts, muts-back}
+use Rattle.lent.proofs.Walks.Rules.Several.{opens-muts, closes-muts}
+use Rattle.lent.proofs.Walks.Rules.Arrays.{five, parts}
+use Rattle.lent.proofs.Walks.Calls.Put.{Puts, to-put, goes-put, put-gives}
 use Rattle.lent.proofs.store.put.Symbol as g-def
 use Rattle.lent.proofs.store.put.Symbol.{name as #lent·store·put}
 use Rattle.lent.proofs.store.put.Met as g-thm

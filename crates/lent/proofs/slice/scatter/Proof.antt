@@ -51,17 +51,17 @@ use Rattle.protocol.proofs.Reader.Laws as T′
 use Rattle.page.specs.Store.{Store, store as stored, idleReader, readerAt}
 use Rattle.lent.specs.Store.{placed}
 use Rattle.lent.proofs.Laws.Gathers.{place-length, place-next}
-use Rattle.lent.proofs.Walks.After.{after}
-use Rattle.lent.proofs.Walks.Flat.{_&_}
-use Rattle.lent.proofs.Walks.Upto as count
-use Rattle.lent.proofs.Walks.Points.{points}
-use Rattle.lent.proofs.Walks.Call.{calls-with}
-use Rattle.lent.proofs.Walks.Made.{vals}
-use Rattle.lent.proofs.Walks.Locals.{Slot, free, has, locals, spread, wide, enters, leaves, arg}
-use Rattle.lent.proofs.Walks.Several.{Each, Spots, alive, Refs, refs, addrs, ptrs, names, spots, shrs}
-use Rattle.lent.proofs.Walks.Several.{shrs-copy}
-use Rattle.lent.proofs.Walks.Arrays.{five, parts}
-use Rattle.lent.proofs.Walks.Takes.{Takes, to-take, goes-take, take-gives}
+use Rattle.lent.proofs.Walks.Rules.After.{after}
+use Rattle.lent.proofs.Walks.Rules.Flat.{_&_}
+use Rattle.lent.proofs.Walks.Rules.Upto as count
+use Rattle.lent.proofs.Walks.Rules.Points.{points}
+use Rattle.lent.proofs.Walks.Rules.Call.{calls-with}
+use Rattle.lent.proofs.Walks.Rules.Made.{vals}
+use Rattle.lent.proofs.Walks.Rules.Locals.{Slot, free, has, locals, spread, wide, enters, leaves, arg}
+use Rattle.lent.proofs.Walks.Rules.Several.{Each, Spots, alive, Refs, refs, addrs, ptrs, names, spots, shrs}
+use Rattle.lent.proofs.Walks.Rules.Several.{shrs-copy}
+use Rattle.lent.proofs.Walks.Rules.Arrays.{five, parts}
+use Rattle.lent.proofs.Walks.Calls.At.{Takes, to-take, goes-take, take-gives}
 use Rattle.lent.proofs.store.at.Symbol as g-def
 use Rattle.lent.proofs.store.at.Symbol.{name as #lent·store·at}
 use Rattle.lent.proofs.store.at.Met as g-thm

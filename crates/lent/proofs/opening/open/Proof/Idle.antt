@@ -43,8 +43,8 @@ use Rattle.page.specs.declared.Opened.{Opened}
 use Rattle.page.proofs.Opened as T
 use Rattle.lent.specs.Calls.{lent, openedLent, openLent}
 use Rattle.lent.proofs.opening.open_idle as g
-use Rattle.lent.proofs.Walks.Flat.{_&_}
-use Rattle.lent.proofs.Walks.Values.{answer, answered}
+use Rattle.lent.proofs.Walks.Rules.Flat.{_&_}
+use Rattle.lent.proofs.Walks.Rules.Values.{answer, answered}
 
 abbrev RO : RattleType
 RO = T.the-row

@@ -24,7 +24,7 @@ use Rattle.protocol.specs.declared.Ending.{Ending}
 use Rattle.protocol.proofs.Ending as T
 use Rattle.protocol.proofs.Ending.Laws as T′
 use Rattle.lent.specs.Calls.{finishes}
-use Rattle.lent.proofs.Walks.Values.{asks-one, tells}
+use Rattle.lent.proofs.Walks.Rules.Values.{asks-one, tells}
 use Rattle.lent.proofs.opening.ended as g
 
 abbrev R : RattleType

@@ -31,9 +31,9 @@ use Rattle.protocol.specs.declared.Reader.{Reader}
 use Rattle.protocol.proofs.Reader as T
 use Rattle.page.specs.Store.{Store, store, putReaders}
 use Rattle.lent.specs.Store.{Whole}
-use Rattle.lent.proofs.Walks.Several.{Each, Spots, Refs, alive, refs, ptrs, muts, last}
-use Rattle.lent.proofs.Walks.Arrays.{five, parts}
-use Rattle.lent.proofs.Walks.Values.{answer, answered}
+use Rattle.lent.proofs.Walks.Rules.Several.{Each, Spots, Refs, alive, refs, ptrs, muts, last}
+use Rattle.lent.proofs.Walks.Rules.Arrays.{five, parts}
+use Rattle.lent.proofs.Walks.Rules.Values.{answer, answered}
 use Rattle.lent.proofs.slice.gather as g
 
 module _ {M : Type 1} (𝓤 : URA M) (H : Heap 𝓤) (A : Atoms 𝓤) (mem : Memory → SProp 𝓤) (run : Routine → Fun 𝓤) where

@@ -25,7 +25,7 @@ use denote.Triple.Clauses.{lasts}
 use Rattle.protocol.specs.declared.Reader.{Reader}
 use Rattle.protocol.proofs.Reader as T
 use Rattle.page.specs.Store.{idleReader}
-use Rattle.lent.proofs.Walks.Values.{answer, answered}
+use Rattle.lent.proofs.Walks.Rules.Values.{answer, answered}
 use Rattle.lent.proofs.slice.empty as g
 
 abbrev R : RattleType

@@ -11,8 +11,8 @@ use Rattle.protocol.specs.declared.Reader.{Reader}
 use Rattle.protocol.proofs.Reader as T
 use Rattle.protocol.proofs.Reader.Laws as T′
 use Rattle.page.specs.Store.{idleReader}
-use Rattle.lent.proofs.Walks.Flat.{_&_}
-use Rattle.lent.proofs.Walks.Zeros.{is-blank}
+use Rattle.lent.proofs.Walks.Rules.Flat.{_&_}
+use Rattle.lent.proofs.Walks.Rules.Zeros.{is-blank}
 
 abbrev pub vals : Reader → List Val
 vals = LL.vals T.the-type T′.the-laws

@@ -40,10 +40,10 @@ use Rattle.page.specs.Carry.{here, ranHere, runHere, Carries}
 use Rattle.page.specs.declared.Ran.{Ran}
 use Rattle.page.proofs.Ran as T
 use Rattle.page.proofs.run as g
-use Rattle.lent.proofs.Walks.Flat.{_&_}
-use Rattle.lent.proofs.Walks.Several.{Each, Spots, alive, refs, ptrs, muts, last}
-use Rattle.lent.proofs.Walks.Arrays.{five, parts}
-use Rattle.lent.proofs.Walks.Ahead.{ahead, among, shares, Every, tokens-in, tokens-back}
+use Rattle.lent.proofs.Walks.Rules.Flat.{_&_}
+use Rattle.lent.proofs.Walks.Rules.Several.{Each, Spots, alive, refs, ptrs, muts, last}
+use Rattle.lent.proofs.Walks.Rules.Arrays.{five, parts}
+use Rattle.lent.proofs.Walks.Calls.Ahead.{ahead, among, shares, Every, tokens-in, tokens-back}
 
 abbrev RR : RattleType
 RR = T.the-row

@@ -30,10 +30,10 @@ use Rattle.protocol.specs.declared.Reader.{Reader}
 use Rattle.protocol.proofs.Reader as T
 use Rattle.page.specs.Store.{Store}
 use Rattle.lent.specs.Store.{placed}
-use Rattle.lent.proofs.Walks.Kept.{Own}
-use Rattle.lent.proofs.Walks.Several.{Each, Spots, Refs, alive, refs, ptrs, shrs}
-use Rattle.lent.proofs.Walks.Arrays.{five, parts}
-use Rattle.lent.proofs.Walks.Values.{answer, answered}
+use Rattle.lent.proofs.Walks.Rules.Kept.{Own}
+use Rattle.lent.proofs.Walks.Rules.Several.{Each, Spots, Refs, alive, refs, ptrs, shrs}
+use Rattle.lent.proofs.Walks.Rules.Arrays.{five, parts}
+use Rattle.lent.proofs.Walks.Rules.Values.{answer, answered}
 use Rattle.lent.proofs.slice.scatter as g
 
 abbrev R : RattleType

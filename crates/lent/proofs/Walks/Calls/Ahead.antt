@@ -9,8 +9,8 @@ use ghost.Atoms.{Atoms, sem}
 use contract.Lifetimes.{Lfts, Shares, toks}
 use types.Kit.{Given, Item, ‵, raw, _⊛_, _$_, _∵_, !, qed, move, keep, split, group, fsplit, done}
 use denote.Steps.{nothing}
-use Rattle.lent.proofs.Walks.Several.{Each, alive}
-use Rattle.lent.proofs.Walks.Arrays.{five}
+use Rattle.lent.proofs.Walks.Rules.Several.{Each, alive}
+use Rattle.lent.proofs.Walks.Rules.Arrays.{five}
 
 -- five of X before a Y
 abbrev pub ahead : {X Y : Type 0} → Each X five → Y → X × (X × (X × (X × (X × Y))))

@@ -18,7 +18,7 @@ use types.Kit.{Post, Step, step, Given, Item, ‵, nth, put, runs, _$_}
 use types.Run.{Walks, Finds, look, init, stop, hop, fld, from, load, addr, and-then, no-more, assigns}
 use types.Part.{agg, whole, sub, look-in}
 use denote.Slice.{sliceTy, sliceVal}
-use Rattle.lent.proofs.Walks.Locals.{takes, puts}
+use Rattle.lent.proofs.Walks.Rules.Locals.{takes, puts}
 
 module _ {M : Type 1} (𝓤 : URA M) (H : Heap 𝓤) (A : Atoms 𝓤) where
   -- what is left of a context once three entries are taken out, and the three put back

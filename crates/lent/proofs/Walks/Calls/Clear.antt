@@ -25,8 +25,8 @@ use denote.Triple.Clauses.{lasts}
 use Rattle.protocol.specs.declared.Reader.{Reader}
 use Rattle.protocol.proofs.Reader as T
 use Rattle.page.specs.Store.{idleReader}
-use Rattle.lent.proofs.Walks.Kept.{Own}
-use Rattle.lent.proofs.Walks.Values.{answer, answered}
+use Rattle.lent.proofs.Walks.Rules.Kept.{Own}
+use Rattle.lent.proofs.Walks.Rules.Values.{answer, answered}
 use Rattle.lent.proofs.slice.clear as g
 
 abbrev R : RattleType

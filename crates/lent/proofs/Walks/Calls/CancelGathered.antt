@@ -39,13 +39,13 @@ use Rattle.protocol.specs.declared.Ending.{Ending}
 use Rattle.protocol.proofs.Ending as T
 use Rattle.page.specs.Store.{Store, store}
 use Rattle.page.specs.Carry.{here}
-use Rattle.lent.specs.Calls.{endedHere, cancelHere}
+use Rattle.lent.specs.Calls.{endedHere, cancelEnds}
 use Rattle.lent.proofs.cancelling.cancel_gathered as g
-use Rattle.lent.proofs.Walks.Flat.{_&_}
-use Rattle.lent.proofs.Walks.Values.{answer, answered}
-use Rattle.lent.proofs.Walks.Several.{Each, Spots, alive, refs, ptrs, muts, last}
-use Rattle.lent.proofs.Walks.Arrays.{five, parts}
-use Rattle.lent.proofs.Walks.Ahead.{ahead, among, shares, Every, tokens-in, tokens-back}
+use Rattle.lent.proofs.Walks.Rules.Flat.{_&_}
+use Rattle.lent.proofs.Walks.Rules.Values.{answer, answered}
+use Rattle.lent.proofs.Walks.Rules.Several.{Each, Spots, alive, refs, ptrs, muts, last}
+use Rattle.lent.proofs.Walks.Rules.Arrays.{five, parts}
+use Rattle.lent.proofs.Walks.Calls.Ahead.{ahead, among, shares, Every, tokens-in, tokens-back}
 
 abbrev RE : RattleType
 RE = T.the-row
@@ -78,7 +78,7 @@ module _ (a : Lent) where
   abbrev Says : ℕ → Store → Answer → Type 0
   Says n t z =
       endedHere (z .0) (z .1 .1 .0) (z .1 .1 .1)
-      ≡ cancelHere (formOf (a .1 .0 .now) (a .0)) (a .1 .1 .1 .1 .1 .0 .now) n
+      ≡ cancelEnds (formOf (a .1 .0 .now) (a .0)) (a .1 .1 .1 .1 .1 .0 .now) n
       (here (page .now) (a .1 .1 .1 .0) t (buffers .now)) (a .1 .1 .1 .1 .1 .1 .0)
 
   abbrev pub Told : ℕ → Store → Answer → Val → Type 0

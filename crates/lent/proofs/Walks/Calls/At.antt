@@ -25,9 +25,9 @@ use denote.Triple.Clauses.{lasts}
 use denote.Triple.Walked.{says}
 use Rattle.protocol.proofs.Reader as T
 use Rattle.page.specs.Store.{Store, readerAt}
-use Rattle.lent.proofs.Walks.Several.{Each, Spots, Refs, alive, refs, ptrs, shrs}
-use Rattle.lent.proofs.Walks.Arrays.{five, parts}
-use Rattle.lent.proofs.Walks.Values.{tells}
+use Rattle.lent.proofs.Walks.Rules.Several.{Each, Spots, Refs, alive, refs, ptrs, shrs}
+use Rattle.lent.proofs.Walks.Rules.Arrays.{five, parts}
+use Rattle.lent.proofs.Walks.Rules.Values.{tells}
 use Rattle.lent.proofs.store.at as g
 
 abbrev R : RattleType

@@ -24,7 +24,7 @@ use Rattle.page.specs.declared.Opened.{Opened}
 use Rattle.page.proofs.Opened as T
 use Rattle.page.proofs.Opened.Laws as T′
 use Rattle.lent.specs.Calls.{finishes}
-use Rattle.lent.proofs.Walks.Values.{asks-one, tells}
+use Rattle.lent.proofs.Walks.Rules.Values.{asks-one, tells}
 use Rattle.lent.proofs.opening.finished as g
 
 abbrev R : RattleType

@@ -29,9 +29,9 @@ use Rattle.protocol.specs.declared.Reader.{Reader}
 use Rattle.protocol.proofs.Reader as T
 use Rattle.protocol.proofs.Reader.Laws as T′
 use Rattle.page.specs.Store.{Store, store, putReader}
-use Rattle.lent.proofs.Walks.Several.{Each, Spots, Refs, alive, refs, ptrs, muts, last}
-use Rattle.lent.proofs.Walks.Arrays.{five, parts}
-use Rattle.lent.proofs.Walks.Values.{answer, answered}
+use Rattle.lent.proofs.Walks.Rules.Several.{Each, Spots, Refs, alive, refs, ptrs, muts, last}
+use Rattle.lent.proofs.Walks.Rules.Arrays.{five, parts}
+use Rattle.lent.proofs.Walks.Rules.Values.{answer, answered}
 use Rattle.lent.proofs.store.put as g
 
 abbrev R : RattleType

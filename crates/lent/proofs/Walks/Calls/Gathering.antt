@@ -33,12 +33,12 @@ use Rattle.protocol.specs.declared.Reader.{Reader}
 use Rattle.protocol.proofs.Reader as T
 use Rattle.lent.specs.Store.{Whole}
 use Rattle.lent.proofs.Laws.Runs.{zeros, gathered}
-use Rattle.lent.proofs.Walks.Call.{calls-with}
-use Rattle.lent.proofs.Walks.Locals.{the}
-use Rattle.lent.proofs.Walks.Several.{Spots, addrs, made, whole, alive, lie, last, lends-muts, muts-back}
-use Rattle.lent.proofs.Walks.Arrays.{five, parts}
-use Rattle.lent.proofs.Walks.Kept.{Own}
-use Rattle.lent.proofs.Walks.Gathers.{Gathers, to-gather, goes-gather, gather-gives}
+use Rattle.lent.proofs.Walks.Rules.Call.{calls-with}
+use Rattle.lent.proofs.Walks.Rules.Locals.{the}
+use Rattle.lent.proofs.Walks.Rules.Several.{Spots, addrs, made, whole, alive, lie, last, lends-muts, muts-back}
+use Rattle.lent.proofs.Walks.Rules.Arrays.{five, parts}
+use Rattle.lent.proofs.Walks.Rules.Kept.{Own}
+use Rattle.lent.proofs.Walks.Calls.Gather.{Gathers, to-gather, goes-gather, gather-gives}
 use Rattle.lent.proofs.slice.gather.Symbol.{name as #lent·gather}
 
 abbrev R : RattleType
