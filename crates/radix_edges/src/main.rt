@@ -170,6 +170,26 @@ fn ends_refused() {
     pairs::ends(&[24, 60], &[11, 57], &[11, 60]);
 }
 
+// Bases asked of alone: each from 2 to 256, at most eight.
+fn bases() {
+    numbers::good(&[2]);
+    numbers::good(&[256; 8]);
+    numbers::good(&[1]);
+    numbers::good(&[257]);
+    numbers::good(&[10, 10, 0]);
+    numbers::good(&[2; 9]);
+}
+
+// Digits asked of alone: as many as bases, each below its own.
+fn digits_asked() {
+    numbers::valid(&[24, 60], &[23, 59]);
+    numbers::valid(&[256; 8], &[255; 8]);
+    numbers::valid(&[24, 60], &[24, 0]);
+    numbers::valid(&[24, 60], &[0, 60]);
+    numbers::valid(&[24, 60], &[1]);
+    numbers::valid(&[24, 60], &[1, 2, 0]);
+}
+
 fn main() {
     one_place();
     more_places();
@@ -184,4 +204,6 @@ fn main() {
     compares();
     ends();
     ends_refused();
+    bases();
+    digits_asked();
 }

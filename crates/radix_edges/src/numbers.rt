@@ -44,6 +44,20 @@ pub(crate) fn read(bases: &[u16], digits: &[u8]) {
     show::say(b"\n");
 }
 
+pub(crate) fn good(bases: &[u16]) {
+    show::say(b"good bases");
+    show::bases(bases);
+    show::answer(radix::counts::good(bases));
+}
+
+pub(crate) fn valid(bases: &[u16], digits: &[u8]) {
+    show::say(b"valid digits");
+    show::bytes(digits);
+    show::say(b" over");
+    show::bases(bases);
+    show::answer(radix::counts::valid(bases, digits));
+}
+
 // q places of one base.
 fn places(base: u16, q: usize) {
     show::say(b" in ");

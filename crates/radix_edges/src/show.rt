@@ -38,6 +38,14 @@ pub(crate) fn bases(all: &[u16]) {
     }
 }
 
+pub(crate) fn answer(yes: bool) {
+    if yes {
+        say(b": yes\n");
+    } else {
+        say(b": no\n");
+    }
+}
+
 // Document 01's number of a refusal.
 fn number(why: Fault) -> u64 {
     match why {
