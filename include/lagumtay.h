@@ -41,7 +41,7 @@ typedef struct {
 
 /* A reader's state. kind 0: idle; 1: a count read; 2: a record read. Digits gathered of c1 (or v2) stand from
  * digits[0] on, those of c2 (or v1) from digits[8] on; those not gathered, and fields that the kind does not use, are
- * zero. The five bytes before steps are padding: they hold nothing, and a call may change them.
+ * zero. The five bytes before steps are padding and hold nothing; no promise speaks of them.
  * crates/protocol/specs/Memory.antt, `storedReading`. */
 typedef struct {
     uint8_t kind;

@@ -53,7 +53,8 @@ static uint8_t run(struct lengths l) {
     lagumtay_answer answer = {9, 9};
     uint8_t why = lagumtay_run(&lent.format, LIST(lent.bases, l.bases), LIST(lent.page, l.page), &lent.writer,
                                LIST(lent.readers, l.readers), LIST(lent.buffers, l.buffers),
-                               LIST(lent.record, l.record), commands, sizeof commands, lent.log, sizeof lent.log, &answer);
+                               LIST(lent.record, l.record), commands, sizeof commands, lent.log, sizeof lent.log,
+                               &answer);
     if (why <= LAGUMTAY_INVALID_STATE)
         check(answer.done == 0 && answer.written == 0, "run", "a run refused at its start answers 0 and 0");
     return why;
@@ -61,7 +62,8 @@ static uint8_t run(struct lengths l) {
 
 static uint8_t cancel(struct lengths l) {
     return lagumtay_cancel(&lent.format, LIST(lent.bases, l.bases), LIST(lent.page, l.page), &lent.writer,
-                           LIST(lent.readers, l.readers), LIST(lent.buffers, l.buffers), LIST(lent.record, l.record), 1);
+                           LIST(lent.readers, l.readers), LIST(lent.buffers, l.buffers), LIST(lent.record, l.record),
+                           1);
 }
 
 /* Each length of the call in turn is none, one less and one more. */
@@ -72,8 +74,8 @@ static void lengths_of(const char *call, uint8_t (*answer)(struct lengths), int 
             struct lengths l = right;
             int *length = (int *[]){&l.bases, &l.page, &l.readers, &l.buffers, &l.record}[which];
             *length = change == 0 ? -1 : change == 1 ? *length - 1 : *length + 1;
-            /* No base at all is no format; of another number of bases the page has not the length, or the third base, 0,
-             * is none. */
+            /* No base at all is no format; of another number of bases the page has not the length, or the third base,
+             * 0, is none. */
             int bad_format = which == 0 && change != 1;
             struct lent before = lent;
             check(answer(l) == (bad_format ? LAGUMTAY_BAD_FORMAT : LAGUMTAY_WRONG_LENGTH), call, names[which]);
@@ -86,6 +88,8 @@ int main(void) {
     lent.bases[0] = 24;
     lent.bases[1] = 60;
     memcpy(lent.record, "abcd", N);
+    /* An opening does not ask what the states hold. Their padding keeps these bytes unless a call touches it. */
+    memset(lent.readers, 0xaa, sizeof lent.readers);
 
     lengths_of("open", opening, 5);
     check(opening(right) == LAGUMTAY_OK, "open", "the right lengths");
@@ -98,6 +102,9 @@ int main(void) {
     cut.record = -1;
     check(run(cut) == LAGUMTAY_NOTHING_PENDING, "run", "no records");
     check(lent.readers[0].kind == 1, "run", "the command before the refused one is carried out");
+
+    for (size_t k = 3; k < offsetof(lagumtay_reader, steps); k++)
+        check(((const uint8_t *)&lent.readers[0])[k] == 0xaa, "run", "padding is touched");
 
     lengths_of("cancel", cancel, 4);
     check(cancel(right) == LAGUMTAY_NOTHING_PENDING, "cancel", "nothing to cancel");

@@ -1,4 +1,4 @@
-//! Links the proved archive: LAGUMTAY_ARCHIVE, or the one that `rt check` leaves in the repository.
+//! Links the proved archive: LAGUMTAY_ARCHIVE, or the one that `rt staticlib lagumtay` leaves in the repository.
 use std::env;
 use std::path::PathBuf;
 
