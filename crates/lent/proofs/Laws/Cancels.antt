@@ -1,15 +1,15 @@
 -- A cancelled read: of what is lent one reader becomes idle, and nothing else changes.
 use mathlib.Core.Path.{_≡_, refl, sym, ap, _∙_, subst}
-use mathlib.Core.List.{List, [], _∷_, map}
+use mathlib.Core.List.{List, [], _∷_}
 use mathlib.Core.Bool.{Bool, true, false, cond}
-use Prim.Native.Nat.{ℕ, zero, suc, _<_}
+use Prim.Native.Nat.{ℕ, _<_}
 use lib.Dec.{leb}
 use lib.ListN.{length, set, take}
 use lib.Seq.{set-getD}
 use borrow.Author.Tests.{leb-false}
 use Rattle.protocol.specs.Lists.{All, concat}
 use Rattle.protocol.specs.Form.{Form}
-use Rattle.protocol.specs.State.{Reading, idle, State, readingOf, bufferOf, withReader, busyReading}
+use Rattle.protocol.specs.State.{idle, State, readingOf, bufferOf, withReader, busyReading}
 use Rattle.protocol.specs.Outcome.{entry}
 use Rattle.protocol.specs.Command.{decode}
 use Rattle.protocol.specs.Step.{Answer, refused, done, carry}
@@ -28,6 +28,7 @@ use Rattle.protocol.proofs.Memory.Stored.{lengths-parts, stored-load}
 use Rattle.protocol.proofs.Runs.OnMemory.{Started, commandsOn, run-started}
 use Rattle.page.specs.Store.{idleReader}
 use Rattle.page.specs.Carry.{here, runHere}
+use Rattle.page.proofs.Carry.Stands.{map-set}
 use Rattle.page.proofs.Common.Tests.{never}
 use Rattle.lent.specs.Store.{Whole, few}
 use Rattle.lent.specs.Calls.{lent, finishes, RanLent, runLent, EndedHere, endedHere, cancelEnds, endedLent}
@@ -46,11 +47,6 @@ pub data Cancels (L : Memory) (who : ℕ) (x : Ran) : Type 0 where
   empties :
       x .ending ≡ Finished → who < length (L .readers) →
       x .memory ≡ lent (L .page) (L .writer) (set (L .readers) who idleReader) (L .buffers) → Cancels L who x
-
-map-set : (f : Reading → Reader) (l : List Reading) (i : ℕ) (y : Reading) → map f (set l i y) ≡ set (map f l) i (f y)
-map-set f [] i y = refl
-map-set f (x ∷ l) zero y = refl
-map-set f (x ∷ l) (suc i) y = ap (λ (z : List Reader). f x ∷ z) (map-set f l i y)
 
 module _ (F : Form) (S : List ℕ) (L : Memory) (who : ℕ) (h : Started F S L) where
   abbrev σ : State

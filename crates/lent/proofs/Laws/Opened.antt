@@ -1,13 +1,13 @@
 -- An accepted opening leaves idle readers: what the code has, over idle readers and over those that are lent.
 use mathlib.Core.Path.{_≡_, refl, sym, ap, _∙_}
-use mathlib.Core.List.{List, _∷_, map}
+use mathlib.Core.List.{List}
 use mathlib.Core.Bool.{true, false}
-use Prim.Native.Nat.{ℕ, zero, suc}
+use Prim.Native.Nat.{ℕ}
 use lib.ListN.{length, replicate, length-replicate}
 use Rattle.radix.specs.declared.Count.{Count}
 use Rattle.protocol.specs.Form.{Form}
-use Rattle.protocol.specs.State.{idle, opened}
-use Rattle.protocol.specs.Memory.{stored, storedReading}
+use Rattle.protocol.specs.State.{opened}
+use Rattle.protocol.specs.Memory.{stored}
 use Rattle.protocol.specs.Run.{Ran, openPage, went, stop}
 use Rattle.protocol.specs.declared.Reader.{Reader}
 use Rattle.protocol.specs.declared.Writer.{Writer}
@@ -16,16 +16,10 @@ use Rattle.page.specs.Store.{Store, idleReader, readersOf}
 use Rattle.page.specs.Carry.{Here, here, openedHere, OpenedHere, openHere}
 use Rattle.page.specs.declared.Opened.{Opened}
 use Rattle.page.proofs.Common.Tests.{never}
+use Rattle.page.proofs.Loop.Started.{idle-readers}
 use Rattle.page.proofs.Rows.Readers.{length-readers}
 use Rattle.lent.specs.Calls.{lent, finishes, OpenedLent, openedLent, openLent}
 use Rattle.lent.proofs.Laws.Opens.{Opens, refuses, accepts, opens}
-
--- IDLE READERS
-
-idle-stored : (F : Form) (k : ℕ) → map (storedReading F) (replicate k idle) ≡ replicate k idleReader
-unfolding storedReading
-idle-stored F zero = refl
-idle-stored F (suc k) = ap (λ (l : List Reader). idleReader ∷ l) (idle-stored F k)
 
 -- what an opening answers and leaves, with other readers
 abbrev with-readers : Ran → List Reader → OpenedLent
@@ -40,7 +34,7 @@ leaves-idle :
 unfolding stored opened
 leaves-idle F c r k e =
     ap (with-readers (went F (stop (opened F c r) Finished)))
-    (ap (λ n. replicate n idleReader) e ∙ sym (idle-stored F (F .readers)))
+    (ap (λ n. replicate n idleReader) e ∙ sym (idle-readers F (F .readers)))
 
 module _ (F : Form) (p : List ℕ) (w : Writer) (b : List ℕ) (c : Count) (r : List ℕ) where
   -- over other readers, an opening leaves idle ones if it ends well, and else these

@@ -44,7 +44,7 @@ readers-whole t a zero l h = tt
 readers-whole t a (suc k) l h =
     (length-row 16 a (t .digits) (digits-fit t a l (omega arith)), readers-whole t (suc a) k l (omega arith))
 
-map-set :
+pub map-set :
     (f : Reading → Reader) (l : List Reading) (i : ℕ) (y : Reading) → map f (set l i y) ≡ set (map f l) i (f y)
 map-set f [] i y = refl
 map-set f (x ∷ l) zero y = refl

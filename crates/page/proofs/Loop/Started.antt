@@ -107,7 +107,7 @@ module _
 
 -- THE OPENING
 
-idle-readers : (F : Form) (k : ℕ) → map (storedReading F) (replicate k idle) ≡ replicate k idleReader
+pub idle-readers : (F : Form) (k : ℕ) → map (storedReading F) (replicate k idle) ≡ replicate k idleReader
 unfolding storedReading
 idle-readers F zero = refl
 idle-readers F (suc k) = ap (λ (l : List _). idleReader ∷ l) (idle-readers F k)
