@@ -12,7 +12,7 @@ use Rattle.protocol.specs.declared.Reader.{Reader}
 use Rattle.protocol.specs.declared.Writer.{Writer}
 use Rattle.page.specs.declared.Opened.{Opened}
 use Rattle.page.specs.declared.Ran.{Ran}
-use Rattle.page.specs.Carry.{Here, ranOf, runHere}
+use Rattle.page.specs.Carry.{Here, ranOf, cancelHere}
 
 -- what is lent
 abbrev pub lent : (page : List ℕ) → Writer → List Reader → (buffers : List ℕ) → Memory
@@ -60,7 +60,7 @@ unfoldable pub cancelLent : Form → (records : List ℕ) → Memory → (who : 
 cancelLent F S L who =
     let x = run F S L (record { given = 7 ∷ who ∷ []; log = [] }) in endedLent (x .ending) (x .memory)
 
--- the same over the core's arrays, of which nothing is kept
+-- the core's cancel, of whose arrays nothing is kept
 pub record EndedHere : Type 0 where
   pub ending : Ending
   pub page : List ℕ
@@ -71,4 +71,4 @@ endedHere e p b = record { ending = e; page = p; buffers = b }
 
 unfoldable pub cancelEnds : Form → (records : List ℕ) → (readers : ℕ) → Here → (who : ℕ) → EndedHere
 cancelEnds F S n h who =
-    let x = runHere F S n h (7 ∷ who ∷ []) [] in endedHere (x .ran .ending) (x .here .page) (x .here .buffers)
+    let x = cancelHere F S n h who in endedHere (x .ending) (x .here .page) (x .here .buffers)

@@ -5,8 +5,8 @@ ghost use Rattle.page.specs.Store.{store};
 ghost use Rattle.page.specs.Carry.{here, cancelledHere, cancelHere};
 use crate::Answer;
 use crate::reader;
+use crate::reader_state;
 use crate::start;
-use crate::station;
 use protocol::Ending;
 use protocol::Format;
 use protocol::Refusal;
@@ -54,7 +54,7 @@ pub fn cancel(
     if let Ending::Refused(why) = e {
         return Ending::Refused(why);
     }
-    let there = station::index(who) < format.readers;
+    let there = reader_state::index(who) < format.readers;
     if !there {
         return Ending::Refused(Refusal::NoSuch);
     }

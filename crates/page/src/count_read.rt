@@ -6,7 +6,7 @@ ghost use Rattle.protocol.specs.Form.{formOf};
 ghost use Rattle.page.specs.Store.{store};
 ghost use Rattle.page.specs.Reader.{moved, countedAt, endCountStore, countStore, CountReady};
 use crate::Answer;
-use crate::station;
+use crate::reader_state;
 use protocol::Format;
 use protocol::Outcome;
 use protocol::Refusal;
@@ -58,7 +58,7 @@ fn end_count(
         (store (now (kinds .entry)) (now (allowed .entry)) (now (finished .entry)) (now (steps .entry))
         (now (digits .entry))) who room ⌝ }
 {
-    let i = station::index(who);
+    let i = reader_state::index(who);
     let m = bases.len();
     digits[i * 16 + 8] = page[m];
     let s = shown(bases, digits, i);
@@ -70,7 +70,7 @@ fn end_count(
         digits[i * 16 + 8] = 0;
         return Answer::Refused(Refusal::LogFull);
     }
-    station::clear(i, kinds, allowed, finished, steps, digits);
+    reader_state::clear(i, kinds, allowed, finished, steps, digits);
     Answer::Done(Outcome::Shown {
         reader: who,
         count: c,
@@ -98,7 +98,7 @@ pub(crate) fn step_count(
         (store (now (kinds .entry)) (now (allowed .entry)) (now (finished .entry)) (now (steps .entry))
         (now (digits .entry))) who room ⌝ }
 {
-    let i = station::index(who);
+    let i = reader_state::index(who);
     let m = bases.len();
     let k = steps[i];
     if k < m {

@@ -12,7 +12,7 @@ ghost use Rattle.page.specs.Entry.{overlay};
 ghost use Rattle.page.specs.Carry.{here, openedHere, openHere};
 use crate::Opened;
 use crate::check;
-use crate::station;
+use crate::reader_state;
 use crate::writing;
 use protocol::Ending;
 use protocol::Format;
@@ -80,7 +80,7 @@ fn clear_readers(
 {
     let mut i: usize = 0;
     while i < readers {
-        station::clear(i, kinds, allowed, finished, steps, digits);
+        reader_state::clear(i, kinds, allowed, finished, steps, digits);
         i = i + 1;
     }
 }
@@ -119,7 +119,7 @@ pub fn open(
         (store (now (kinds .entry)) (now (allowed .entry)) (now (finished .entry)) (now (steps .entry))
         (now (digits .entry))) (now (buffers .entry))) count (now («record» .entry)) ⌝ }
 {
-    station::lengths_are(kinds, allowed, finished, steps, digits);
+    reader_state::lengths_are(kinds, allowed, finished, steps, digits);
     if !check::good_format(format, bases) {
         return refused(Refusal::BadFormat, writer);
     }

@@ -9,7 +9,7 @@ ghost use Rattle.page.specs.Command.{beginRecordStore, reads};
 use crate::Answer;
 use crate::command::Read;
 use crate::reader;
-use crate::station;
+use crate::reader_state;
 use protocol::Format;
 use protocol::Refusal;
 
@@ -68,7 +68,7 @@ pub(crate) fn read(
         (store (now (kinds .entry)) (now (allowed .entry)) (now (finished .entry)) (now (steps .entry))
         (now (digits .entry))) (now (buffers .entry)) who room x ⌝ }
 {
-    let there = station::index(who) < format.readers;
+    let there = reader_state::index(who) < format.readers;
     match x {
         Read::Count => {
             if !there {

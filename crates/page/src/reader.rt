@@ -6,8 +6,8 @@ ghost use Rattle.page.specs.Store.{store};
 ghost use Rattle.page.specs.Reader.{moved, told, stepStore, beginStore, cancelStore, StepReady};
 use crate::Answer;
 use crate::count_read;
+use crate::reader_state;
 use crate::record_read;
-use crate::station;
 use protocol::Format;
 use protocol::Outcome;
 use protocol::Refusal;
@@ -34,7 +34,7 @@ pub(crate) fn step(
         (now (page .entry)) (store (now (kinds .entry)) (now (allowed .entry)) (now (finished .entry))
         (now (steps .entry)) (now (digits .entry))) (now (buffers .entry)) who room ⌝ }
 {
-    let i = station::index(who);
+    let i = reader_state::index(who);
     let kind = kinds[i];
     if kind == 0 {
         return Answer::Refused(Refusal::NothingPending);
@@ -86,7 +86,7 @@ pub(crate) fn begin(
         (store (now (kinds .entry)) (now (allowed .entry)) (now (finished .entry)) (now (steps .entry))
         (now (digits .entry))) who ⌝ }
 {
-    let i = station::index(who);
+    let i = reader_state::index(who);
     let busy = kinds[i];
     if busy != 0 {
         return Answer::Refused(Refusal::Busy);
@@ -112,11 +112,11 @@ pub(crate) fn cancel(
         (store (now (kinds .entry)) (now (allowed .entry)) (now (finished .entry)) (now (steps .entry))
         (now (digits .entry))) who ⌝ }
 {
-    let i = station::index(who);
+    let i = reader_state::index(who);
     let busy = kinds[i];
     if busy == 0 {
         return Answer::Refused(Refusal::NothingPending);
     }
-    station::clear(i, kinds, allowed, finished, steps, digits);
+    reader_state::clear(i, kinds, allowed, finished, steps, digits);
     Answer::Done(Outcome::Nothing)
 }

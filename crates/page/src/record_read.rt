@@ -7,7 +7,7 @@ ghost use Rattle.page.specs.Store.{store};
 ghost use Rattle.page.specs.Reader.{moved, told, versionAt, acceptStore, failStore, endAttemptStore, recordStore};
 ghost use Rattle.page.specs.Reader.{RecordReady, ValidVersion, EndReady};
 use crate::Answer;
-use crate::station;
+use crate::reader_state;
 use protocol::Format;
 use protocol::Outcome;
 use protocol::Refusal;
@@ -47,12 +47,12 @@ fn accept(
         (store (now (kinds .entry)) (now (allowed .entry)) (now (finished .entry)) (now (steps .entry))
         (now (digits .entry))) who room used v ⌝ }
 {
-    let i = station::index(who);
+    let i = reader_state::index(who);
     if room < 7 {
         digits[i * 16 + 8] = 0;
         return Answer::Refused(Refusal::LogFull);
     }
-    station::clear(i, kinds, allowed, finished, steps, digits);
+    reader_state::clear(i, kinds, allowed, finished, steps, digits);
     Answer::Done(Outcome::Accepted {
         reader: who,
         attempts: used,
@@ -82,17 +82,17 @@ fn fail(
         (store (now (kinds .entry)) (now (allowed .entry)) (now (finished .entry)) (now (steps .entry))
         (now (digits .entry))) (now (buffers .entry)) who room used most ⌝ }
 {
-    let i = station::index(who);
+    let i = reader_state::index(who);
     if used < most {
-        station::next_attempt(i, kinds, allowed, finished, steps, digits);
+        reader_state::next_attempt(i, kinds, allowed, finished, steps, digits);
         return Answer::Done(Outcome::Nothing);
     }
     if room < 3 {
         digits[i * 16 + 8] = 0;
         return Answer::Refused(Refusal::LogFull);
     }
-    station::clear(i, kinds, allowed, finished, steps, digits);
-    station::clear_buffer(buffers, i, n);
+    reader_state::clear(i, kinds, allowed, finished, steps, digits);
+    reader_state::clear_buffer(buffers, i, n);
     Answer::Done(Outcome::GaveUp {
         reader: who,
         attempts: used,
@@ -124,12 +124,12 @@ fn end_attempt(
         (now (page .entry)) (store (now (kinds .entry)) (now (allowed .entry)) (now (finished .entry))
         (now (steps .entry)) (now (digits .entry))) (now (buffers .entry)) who room ⌝ }
 {
-    let i = station::index(who);
+    let i = reader_state::index(who);
     let m = bases.len();
     digits[i * 16 + 8] = page[m + m];
     let v2 = version_at(format, bases, digits, i * 16);
     let v1 = version_at(format, bases, digits, i * 16 + 8);
-    let most = station::entry(allowed, i);
+    let most = reader_state::entry(allowed, i);
     let used = finished[i] + 1;
     if v1.0 == v2.0 {
         return accept(who, room, used, v1, kinds, allowed, finished, steps, digits);
@@ -173,7 +173,7 @@ pub(crate) fn step_record(
         (now (page .entry)) (store (now (kinds .entry)) (now (allowed .entry)) (now (finished .entry))
         (now (steps .entry)) (now (digits .entry))) (now (buffers .entry)) who room ⌝ }
 {
-    let i = station::index(who);
+    let i = reader_state::index(who);
     let m = bases.len();
     let q = format.q;
     let n = format.n;

@@ -4,8 +4,8 @@ ghost use Rattle.protocol.specs.Form.{formOf};
 ghost use Rattle.page.specs.Store.{store, Lists16};
 ghost use Rattle.page.specs.Carry.{here, startOf};
 use crate::check;
-use crate::station;
-use crate::station_check;
+use crate::reader_check;
+use crate::reader_state;
 use protocol::Ending;
 use protocol::Format;
 use protocol::Refusal;
@@ -33,7 +33,7 @@ pub(crate) fn checked(
         × Lists16 (store (now (kinds .entry)) (now (allowed .entry)) (now (finished .entry)) (now (steps .entry))
         (now (digits .entry))) ⌝ }
 {
-    station::lengths_are(kinds, allowed, finished, steps, digits);
+    reader_state::lengths_are(kinds, allowed, finished, steps, digits);
     if !check::good_format(format, bases) {
         return Ending::Refused(Refusal::BadFormat);
     }
@@ -52,7 +52,7 @@ pub(crate) fn checked(
     if !check::writer_valid(format, bases, records, writer) {
         return Ending::Refused(Refusal::InvalidState);
     }
-    if !station_check::readers_valid(
+    if !reader_check::readers_valid(
         format,
         bases,
         &all[..q],

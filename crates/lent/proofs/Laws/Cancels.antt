@@ -27,7 +27,7 @@ use Rattle.protocol.specs.declared.Refusal.the-variants.{NoSuch, NothingPending
 use Rattle.protocol.proofs.Memory.Stored.{lengths-parts, stored-load}
 use Rattle.protocol.proofs.Runs.OnMemory.{Started, commandsOn, run-started}
 use Rattle.page.specs.Store.{idleReader}
-use Rattle.page.specs.Carry.{here, runHere}
+use Rattle.page.specs.Carry.{here, runHere, cancelHere}
 use Rattle.page.proofs.Carry.Stands.{map-set}
 use Rattle.page.proofs.Common.Tests.{never}
 use Rattle.lent.specs.Store.{Whole, few}
@@ -139,7 +139,7 @@ module _
 
     -- the run over the slice says the same
     said : endedHere r p′ b′ ≡ endedHere (x .ending) (x .memory .page) (x .memory .buffers)
-    unfolding cancelEnds runHere runLent
+    unfolding cancelEnds cancelHere runHere runLent
     said =
         let c = runHere F S (length xs) (here p w (gathered (few (length xs)) xs) b) (7 ∷ who ∷ []) [] in
         e

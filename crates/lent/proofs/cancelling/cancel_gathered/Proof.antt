@@ -1,7 +1,7 @@
 -- What a cancel over the arrays answers, without the states.
 use borrow.Author.Needs.{needs}
 use mathlib.Core.Path.{ap}
-use Rattle.page.specs.Carry.{CancelledHere, cancelHere}
+use Rattle.page.specs.Carry.{CancelledHere}
 use Rattle.lent.specs.Calls.{endedHere, cancelEnds}
 use Rattle.lent.proofs.cancelling.cancel_gathered.Statement.{statement}
 use Rattle.lent.proofs.cancelling.cancel_gathered.Tie as tie
@@ -16,7 +16,7 @@ same-length-2 : tie.Need-same-length-2
 same-length-2 c = search needs
 
 returns : tie.Need-returns
-unfolding cancelEnds cancelHere
+unfolding cancelEnds
 returns c =
     ap (λ (z : CancelledHere). endedHere (z .ending) (z .here .page) (z .here .buffers)) (c .cancel .ensures)
 

@@ -5,8 +5,8 @@ use Prim.Native.Nat.{_*_, _-_, _≤_}
 use native.Mathlib.Omega.{arith}
 use lib.ListN.{length}
 use Rattle.page.proofs.Common.Pastes.{zeroed, zeroed-none, zeroed-more, zeroed-length, zeroed-all}
-use Rattle.page.proofs.station.clear_digits.Statement.{statement}
-use Rattle.page.proofs.station.clear_digits.Tie as tie
+use Rattle.page.proofs.reader_state.clear_digits.Statement.{statement}
+use Rattle.page.proofs.reader_state.clear_digits.Tie as tie
 
 abbrev Inv-loop : tie.InvT-loop
 Inv-loop digits₀ i k₀ digits k = (k ≤ 16) × (digits ≡ zeroed (i * 16) 16 k digits₀)

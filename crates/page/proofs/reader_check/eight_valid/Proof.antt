@@ -12,8 +12,8 @@ use Rattle.page.specs.Check.{sumOf, eightOk}
 use Rattle.page.proofs.Laws.Checks.Ranges.{every-on, every-off, every-end}
 use Rattle.page.proofs.Laws.Checks.Sums.{outside, sum-first, sum-end, sum-outside}
 use Rattle.page.proofs.Laws.Checks.Eights.{below, eight-parts}
-use Rattle.page.proofs.station_check.eight_valid.Statement.{statement}
-use Rattle.page.proofs.station_check.eight_valid.Tie as tie
+use Rattle.page.proofs.reader_check.eight_valid.Statement.{statement}
+use Rattle.page.proofs.reader_check.eight_valid.Tie as tie
 
 abbrev Inv-loop : tie.InvT-loop
 Inv-loop bases digits at low high left₀ p₀ left p =

@@ -5,8 +5,8 @@ use Prim.Native.Nat.{_*_, _-_, _≤_}
 use native.Mathlib.Omega.{arith}
 use lib.ListN.{length}
 use Rattle.page.proofs.Common.Pastes.{zeroed, zeroed-none, zeroed-more, zeroed-length, zeroed-all}
-use Rattle.page.proofs.station.clear_buffer.Statement.{statement}
-use Rattle.page.proofs.station.clear_buffer.Tie as tie
+use Rattle.page.proofs.reader_state.clear_buffer.Statement.{statement}
+use Rattle.page.proofs.reader_state.clear_buffer.Tie as tie
 
 abbrev Inv-loop : tie.InvT-loop
 Inv-loop buffers₀ i n k₀ buffers k = (k ≤ n) × (buffers ≡ zeroed (i * n) n k buffers₀)

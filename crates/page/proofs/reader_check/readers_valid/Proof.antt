@@ -9,8 +9,8 @@ use Rattle.protocol.proofs.InRange.{in-range}
 use Rattle.page.specs.Store.{store}
 use Rattle.page.specs.Check.{readerOk, readersOk}
 use Rattle.page.proofs.Laws.Checks.Ranges.{every-on, every-off, every-end}
-use Rattle.page.proofs.station_check.readers_valid.Statement.{statement}
-use Rattle.page.proofs.station_check.readers_valid.Tie as tie
+use Rattle.page.proofs.reader_check.readers_valid.Statement.{statement}
+use Rattle.page.proofs.reader_check.readers_valid.Tie as tie
 
 abbrev Inv-loop : tie.InvT-loop
 Inv-loop format bases version-bases kinds allowed finished steps digits i₀ i =

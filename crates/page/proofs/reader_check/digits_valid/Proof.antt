@@ -3,8 +3,8 @@ use borrow.Author.Tests.{not-true, not-false}
 use borrow.Author.Needs.{needs}
 use mathlib.Core.Path.{sym, _∙_}
 use Rattle.page.proofs.Laws.Checks.Gathered.{gathered-first, gathered-second}
-use Rattle.page.proofs.station_check.digits_valid.Statement.{statement}
-use Rattle.page.proofs.station_check.digits_valid.Tie as tie
+use Rattle.page.proofs.reader_check.digits_valid.Statement.{statement}
+use Rattle.page.proofs.reader_check.digits_valid.Tie as tie
 
 mul-eight-valid : tie.Need-mul-eight-valid
 mul-eight-valid c = search needs

@@ -22,8 +22,8 @@ use Rattle.page.proofs.Laws.Checks.Readers.{
   count-over,
   count-fine,
 }
-use Rattle.page.proofs.station_check.reader_valid.Statement.{statement}
-use Rattle.page.proofs.station_check.reader_valid.Tie as tie
+use Rattle.page.proofs.reader_check.reader_valid.Statement.{statement}
+use Rattle.page.proofs.reader_check.reader_valid.Tie as tie
 
 abbrev form-at : tie.Start → Form
 form-at c = formOf (c .args .bases .now) (c .args .format)

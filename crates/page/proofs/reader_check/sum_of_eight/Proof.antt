@@ -4,8 +4,8 @@ use Prim.Native.Nat.{_+_, _*_, _-_, _≤_}
 use native.Mathlib.Omega.{arith}
 use Rattle.page.specs.Check.{sumOf}
 use Rattle.page.proofs.Laws.Checks.Sums.{sum-first, sum-end}
-use Rattle.page.proofs.station_check.sum_of_eight.Statement.{statement}
-use Rattle.page.proofs.station_check.sum_of_eight.Tie as tie
+use Rattle.page.proofs.reader_check.sum_of_eight.Statement.{statement}
+use Rattle.page.proofs.reader_check.sum_of_eight.Tie as tie
 
 abbrev Inv-loop : tie.InvT-loop
 Inv-loop digits at sum₀ p₀ sum p =
