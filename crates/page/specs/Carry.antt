@@ -13,9 +13,9 @@ use Rattle.protocol.specs.Outcome.{entry}
 use Rattle.protocol.specs.Step.{Answer as Meant, refused, done, carry}
 use Rattle.protocol.specs.Memory.{Memory, storedWriting, storedReading, goodLengths}
 use Rattle.protocol.specs.Load.{load, validMemory}
-use Rattle.protocol.specs.Run.{openPage, Run, Event, commands, run, runs, left, logged, logAfter}
+use Rattle.protocol.specs.Run.{openPage, Run, Event, commands, run, RunOver, runs, left, logged, logAfter}
 use Rattle.protocol.specs.History.{history, fresh}
-use Rattle.protocol.specs.Demand.{handed, Demand3}
+use Rattle.protocol.specs.Demand.{acceptsOf, Demand3, Continued}
 use Rattle.protocol.specs.declared.Command.{Command}
 use Rattle.protocol.specs.declared.Ending.{Ending}
 use Rattle.protocol.specs.declared.Ending.the-variants.{Finished}
@@ -127,11 +127,13 @@ unfoldable pub cancelHere : Form → List ℕ → (readers : ℕ) → Here → (
 cancelHere F S k h who = let x = runHere F S k h (7 ∷ who ∷ []) [] in cancelledHere (x .ran .ending) (x .here)
 
 -- DEMAND 3 FOR THE CALLER: whatever list of runs from an accepted opening left what is lent now, the claim holds of
--- that list with this run added
+-- that list with this run added, if each run's records go on with those before
 abbrev pub Carries : Form → List ℕ → Memory → Run → Type 0
 Carries F S L x =
-    (L₀ : Memory) (c : Count) (record₀ : List ℕ) (xs : List Run) →
+    (L₀ : Memory) (c : Count) (record₀ : List ℕ) (xs : List RunOver) →
     openPage F L₀ c record₀ .ending ≡ Finished →
-    left (openPage F L₀ c record₀ .memory) (runs F S (openPage F L₀ c record₀ .memory) xs) ≡ L →
-    let ys = runs F S (openPage F L₀ c record₀ .memory) xs ++ (run F S L x ∷ []) in
-    Demand3 F c record₀ S ys (load F (run F S L x .memory)) (history F S (fresh F) (handed (xs ++ (x ∷ [])) ys))
+    let L₁ = openPage F L₀ c record₀ .memory in
+    let zs = xs ++ (record { records = S; run = x } ∷ []) in
+    left L₁ (runs F L₁ xs) ≡ L → Continued F L₁ zs →
+    let ys = runs F L₁ xs ++ (run F S L x ∷ []) in
+    Demand3 F c record₀ zs ys (run F S L x .memory) (history F (fresh F) zs (acceptsOf ys))

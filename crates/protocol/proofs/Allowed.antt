@@ -6,4 +6,5 @@ pub mod Writer
 pub mod Reader
 pub mod Carry
 pub mod Opened
+pub mod Over
 pub mod Commands

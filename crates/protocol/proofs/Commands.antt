@@ -7,3 +7,5 @@ pub mod CountStep
 pub mod AttemptEnd
 pub mod AttemptStep
 pub mod Carry
+pub mod Fits
+pub mod Stock

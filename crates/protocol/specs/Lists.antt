@@ -21,6 +21,12 @@ abbrev pub All : {A : Type 0} → (A → Type 0) → List A → Type 0
 All P [] = Unit {0}
 All P (x ∷ xs) = P x × All P xs
 
+-- of two lists, the second as long as the first at least: R holds of each element and the one that stands beside it
+abbrev pub Both : {A B : Type 0} → (A → B → Type 0) → List A → List B → Type 0
+Both R [] ys = Unit {0}
+Both R (x ∷ xs) [] = ⊥
+Both R (x ∷ xs) (y ∷ ys) = R x y × Both R xs ys
+
 -- R holds of each element and every one that stands behind it
 abbrev pub Pairwise : {A : Type 0} → (A → A → Type 0) → List A → Type 0
 Pairwise R [] = Unit {0}

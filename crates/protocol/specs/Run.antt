@@ -34,31 +34,31 @@ pub record Event : Type 0 where
   pub after : State
   pub outcome : Outcome
 
-pub record Went : Type 0 where
+pub record Execution : Type 0 where
   pub state : State
   pub events : List Event
   pub ending : Ending
 
-abbrev pub first : Event → Went → Went
-first e x = record { state = x .state; events = e ∷ x .events; ending = x .ending }
+abbrev pub prepend : Event → Execution → Execution
+prepend e x = record { state = x .state; events = e ∷ x .events; ending = x .ending }
 
-abbrev pub stop : State → Ending → Went
+abbrev pub stop : State → Ending → Execution
 stop σ e = record { state = σ; events = []; ending = e }
 
 -- `next` is the rest of the run; refusal 12 is given here alone, after all others
-unfoldable pub answered : (ℕ → State → List ℕ → Went) → ℕ → State → List ℕ → Answer → Went
+unfoldable pub answered : (ℕ → State → List ℕ → Execution) → ℕ → State → List ℕ → Answer → Execution
 answered next room σ s (refused why) = stop σ (Refused why)
 answered next room σ s (done σ′ o) =
     cond (ltb room (length (entry o))) (stop σ (Refused LogFull))
-    (first (record { after = σ′; outcome = o }) (next (room - length (entry o)) σ′ s))
+    (prepend (record { after = σ′; outcome = o }) (next (room - length (entry o)) σ′ s))
 
-unfoldable pub decoded : Form → List ℕ → (ℕ → State → List ℕ → Went) → ℕ → State → Decoded → Went
+unfoldable pub decoded : Form → List ℕ → (ℕ → State → List ℕ → Execution) → ℕ → State → Decoded → Execution
 decoded F S next room σ over = stop σ Finished
 decoded F S next room σ unknown = stop σ (Refused UnknownCommand)
 decoded F S next room σ (command x s) = answered next room σ s (carry F S σ x)
 
 -- each command takes a byte at least: fuel of as many as there are bytes is enough
-unfoldable pub commands : Form → List ℕ → ℕ → ℕ → State → List ℕ → Went
+unfoldable pub commands : Form → List ℕ → ℕ → ℕ → State → List ℕ → Execution
 commands F S zero room σ s = decoded F S (λ room′ σ′ s′. stop σ′ Finished) room σ (decode s)
 commands F S (suc fuel) room σ s = decoded F S (λ room′ σ′ s′. commands F S fuel room′ σ′ s′) room σ (decode s)
 
@@ -72,8 +72,8 @@ pub record Ran : Type 0 where
   pub events : List Event
   pub ending : Ending
 
-abbrev pub went : Form → Went → Ran
-went F x = record { memory = stored F (x .state); events = x .events; ending = x .ending }
+abbrev pub inMemory : Form → Execution → Ran
+inMemory F x = record { memory = stored F (x .state); events = x .events; ending = x .ending }
 
 abbrev pub refusedRun : Memory → Refusal → Ran
 refusedRun L why = record { memory = L; events = []; ending = Refused why }
@@ -83,7 +83,7 @@ unfoldable pub openPage : Form → Memory → Count → List ℕ → Ran
 openPage F L c r =
     cond (not (goodForm F)) (refusedRun L BadFormat)
     (cond (not (goodLengths F L && eqb (length r) (F .n))) (refusedRun L WrongLength)
-    (cond (leb (product (F .bases)) (c .0)) (refusedRun L CountTooLarge) (went F (stop (opened F c r) Finished))))
+    (cond (leb (product (F .bases)) (c .0)) (refusedRun L CountTooLarge) (inMemory F (stop (opened F c r) Finished))))
 
 -- A RUN: refusals 1 to 3, once at its start
 unfoldable pub run : Form → List ℕ → Memory → Run → Ran
@@ -91,7 +91,7 @@ run F S L x =
     cond (not (goodForm F)) (refusedRun L BadFormat)
     (cond (not (goodLengths F L && eqb (length S % F .n) 0)) (refusedRun L WrongLength)
     (cond (not (validMemory F S L)) (refusedRun L InvalidState)
-    (went F (commands F S (length (x .given)) (length (x .log)) (load F L) (x .given)))))
+    (inMemory F (commands F S (length (x .given)) (length (x .log)) (load F L) (x .given)))))
 
 -- what it writes into the log, and the log after it
 abbrev pub logged : List Event → List ℕ
@@ -100,10 +100,14 @@ logged es = concat (map (λ (e : Event). entry (e .outcome)) es)
 abbrev pub logAfter : List Event → List ℕ → List ℕ
 logAfter es log = logged es ++ drop (length (logged es)) log
 
--- A LIST OF RUNS, each from what the one before left
-unfoldable pub runs : Form → List ℕ → Memory → List Run → List Ran
-runs F S L [] = []
-runs F S L (x ∷ xs) = let y = run F S L x in y ∷ runs F S (y .memory) xs
+-- A LIST OF RUNS, each from what the one before left, with the records that are lent to it
+pub record RunOver : Type 0 where
+  pub records : List ℕ
+  pub run : Run
+
+unfoldable pub runs : Form → Memory → List RunOver → List Ran
+runs F L [] = []
+runs F L (x ∷ xs) = let y = run F (x .records) L (x .run) in y ∷ runs F (y .memory) xs
 
 -- what the last one leaves
 abbrev pub left : Memory → List Ran → Memory

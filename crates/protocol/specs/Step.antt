@@ -149,8 +149,8 @@ abbrev pub stepReader : Form → State → ℕ → Answer
 stepReader F σ r =
     onGathered σ r (gather F r (getD (σ .page) (nextPosition F (readingOf σ r)) 0) (readingOf σ r) (bufferOf σ r))
 
-abbrev pub begins : State → ℕ → Reading → Answer
-begins σ r x = done (withReader σ r x (bufferOf σ r)) Nothing
+abbrev pub becomes : State → ℕ → Reading → Answer
+becomes σ r x = done (withReader σ r x (bufferOf σ r)) Nothing
 
 -- THE SEVEN COMMANDS
 
@@ -168,11 +168,11 @@ carry F S σ (WriteRecord i) =
     (done (withWriting σ (aRecord (record { 0 = v }) i 0)) Nothing)))
 carry F S σ WriterStep = stepWriter F S σ (σ .writing)
 carry F S σ (BeginCountRead r) =
-    refuseIf (leb (F .readers) r) NoSuch (refuseIf (busyReading (readingOf σ r)) Busy (begins σ r (ofCount [])))
+    refuseIf (leb (F .readers) r) NoSuch (refuseIf (busyReading (readingOf σ r)) Busy (becomes σ r (ofCount [])))
 carry F S σ (BeginRecordRead r allowed) =
     refuseIf (leb (F .readers) r || eqb allowed 0) NoSuch
-    (refuseIf (busyReading (readingOf σ r)) Busy (begins σ r (ofRecord allowed 0 0 [])))
+    (refuseIf (busyReading (readingOf σ r)) Busy (becomes σ r (ofRecord allowed 0 0 [])))
 carry F S σ (ReaderStep r) = refuseIf (leb (F .readers) r) NoSuch (stepReader F σ r)
 carry F S σ (Cancel r) =
     refuseIf (leb (F .readers) r) NoSuch
-    (cond (busyReading (readingOf σ r)) (begins σ r idle) (refused NothingPending))
+    (cond (busyReading (readingOf σ r)) (becomes σ r idle) (refused NothingPending))

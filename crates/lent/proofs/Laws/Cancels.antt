@@ -15,7 +15,7 @@ use Rattle.protocol.specs.Command.{decode}
 use Rattle.protocol.specs.Step.{Answer, refused, done, carry}
 use Rattle.protocol.specs.Memory.{Memory, stored, storedReading}
 use Rattle.protocol.specs.Load.{load}
-use Rattle.protocol.specs.Run.{Ran, Run, Went, run, went, answered, decoded, commands}
+use Rattle.protocol.specs.Run.{Ran, Run, Execution, run, inMemory, answered, decoded, commands}
 use Rattle.protocol.specs.declared.Command.the-variants.{Cancel}
 use Rattle.protocol.specs.declared.Outcome.the-variants.{Nothing}
 use Rattle.protocol.specs.declared.Reader.{Reader}
@@ -79,18 +79,18 @@ module _ (F : Form) (S : List ℕ) (L : Memory) (who : ℕ) (h : Started F S L) 
   by-answer a e = ap (answered (λ room σ₁ s. commands F S 1 room σ₁ s) 0 σ []) e
 
   refused-stops : (why : Refusal) → carry F S σ (Cancel who) ≡ refused why
-      → Cancels L who (went F (commandsOn F S L (cancels who)))
+      → Cancels L who (inMemory F (commandsOn F S L (cancels who)))
   unfolding answered
   refused-stops why e =
       let q = by-answer (refused why) e in
-      stays why (ap (λ (x : Went). x .ending) q) (ap (λ (x : Went). stored F (x .state)) q ∙ same)
+      stays why (ap (λ (x : Execution). x .ending) q) (ap (λ (x : Execution). stored F (x .state)) q ∙ same)
 
   done-goes : who < length (L .readers) → carry F S σ (Cancel who) ≡ done σ′ Nothing
-      → Cancels L who (went F (commandsOn F S L (cancels who)))
+      → Cancels L who (inMemory F (commandsOn F S L (cancels who)))
   unfolding answered entry commands decoded decode
   done-goes l e =
       let q = by-answer (done σ′ Nothing) e in
-      empties (ap (λ (x : Went). x .ending) q) l (ap (λ (x : Went). stored F (x .state)) q ∙ emptied)
+      empties (ap (λ (x : Execution). x .ending) q) l (ap (λ (x : Execution). stored F (x .state)) q ∙ emptied)
 
   carried : carry F S σ (Cancel who)
       ≡ cond (leb (F .readers) who) (refused NoSuch)
@@ -99,13 +99,13 @@ module _ (F : Form) (S : List ℕ) (L : Memory) (who : ℕ) (h : Started F S L) 
   carried = refl
 
   by-busy : leb (F .readers) who ≡ false → (t : Bool) → busyReading (readingOf σ who) ≡ t
-      → Cancels L who (went F (commandsOn F S L (cancels who)))
+      → Cancels L who (inMemory F (commandsOn F S L (cancels who)))
   by-busy e true b =
       let l : who < F .readers = leb-false (F .readers) who e in
       done-goes (subst (λ n. who < n) (sym (lengths-parts F L (h .lengths) .1)) l) (carried ∙ rw (e, b))
   by-busy e false b = refused-stops NothingPending (carried ∙ rw (e, b))
 
-  by-reader : (t : Bool) → leb (F .readers) who ≡ t → Cancels L who (went F (commandsOn F S L (cancels who)))
+  by-reader : (t : Bool) → leb (F .readers) who ≡ t → Cancels L who (inMemory F (commandsOn F S L (cancels who)))
   by-reader true e = refused-stops NoSuch (carried ∙ rw e)
   by-reader false e = by-busy e _ refl
 

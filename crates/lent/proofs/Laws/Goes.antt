@@ -11,7 +11,7 @@ use Rattle.protocol.specs.Form.{Form, goodForm}
 use Rattle.protocol.specs.State.{State}
 use Rattle.protocol.specs.Memory.{Memory, stored, storedReading, goodLengths}
 use Rattle.protocol.specs.Load.{load, validMemory}
-use Rattle.protocol.specs.Run.{Ran, Run, run, refusedRun, went}
+use Rattle.protocol.specs.Run.{Ran, Run, run, refusedRun, inMemory}
 use Rattle.protocol.specs.declared.Refusal.{Refusal}
 use Rattle.protocol.specs.declared.Refusal.the-variants.{BadFormat, WrongLength, InvalidState}
 use Rattle.protocol.proofs.InRange.{in-range}
@@ -87,7 +87,7 @@ module _ (F : Form) (S : List ℕ) (L : Memory) (x : Run) where
   abbrev pub Leaves : Ran → Type 0
   Leaves y = (length (y .memory .readers) ≡ length (L .readers)) × All Whole (y .memory .readers)
 
-  started-leaves : Started F S L → Leaves (went F (commandsOn F S L x))
+  started-leaves : Started F S L → Leaves (inMemory F (commandsOn F S L x))
   unfolding stored
   started-leaves h =
       let range = in-range F (h .form) in

@@ -8,7 +8,7 @@ use Rattle.radix.specs.declared.Count.{Count}
 use Rattle.protocol.specs.Form.{Form}
 use Rattle.protocol.specs.State.{opened}
 use Rattle.protocol.specs.Memory.{stored}
-use Rattle.protocol.specs.Run.{Ran, openPage, went, stop}
+use Rattle.protocol.specs.Run.{Ran, openPage, inMemory, stop}
 use Rattle.protocol.specs.declared.Reader.{Reader}
 use Rattle.protocol.specs.declared.Writer.{Writer}
 use Rattle.protocol.specs.declared.Ending.the-variants.{Finished}
@@ -29,11 +29,11 @@ with-readers o rs =
 
 leaves-idle :
     (F : Form) (c : Count) (r : List ℕ) (k : ℕ) → k ≡ F .readers →
-    with-readers (went F (stop (opened F c r) Finished)) (replicate k idleReader)
-    ≡ with-readers (went F (stop (opened F c r) Finished)) (went F (stop (opened F c r) Finished) .memory .readers)
+    with-readers (inMemory F (stop (opened F c r) Finished)) (replicate k idleReader)
+    ≡ with-readers (inMemory F (stop (opened F c r) Finished)) (inMemory F (stop (opened F c r) Finished) .memory .readers)
 unfolding stored opened
 leaves-idle F c r k e =
-    ap (with-readers (went F (stop (opened F c r) Finished)))
+    ap (with-readers (inMemory F (stop (opened F c r) Finished)))
     (ap (λ n. replicate n idleReader) e ∙ sym (idle-readers F (F .readers)))
 
 module _ (F : Form) (p : List ℕ) (w : Writer) (b : List ℕ) (c : Count) (r : List ℕ) where
@@ -62,7 +62,7 @@ module _ (F : Form) (p : List ℕ) (w : Writer) (b : List ℕ) (c : Count) (r : 
     idle-with (refuses why x y) e = rw (x, y)
     idle-with (accepts x y n) e =
         rw (x, y)
-        (ap (with-readers (went F (stop (opened F c r) Finished))) e
+        (ap (with-readers (inMemory F (stop (opened F c r) Finished))) e
         ∙ leaves-idle F c r (length rs′) (sym long ∙ n))
 
     way : ways

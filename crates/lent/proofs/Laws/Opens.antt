@@ -10,7 +10,7 @@ use Rattle.radix.specs.Digits.{product}
 use Rattle.protocol.specs.Form.{Form, goodForm}
 use Rattle.protocol.specs.State.{opened}
 use Rattle.protocol.specs.Memory.{Memory, goodLengths}
-use Rattle.protocol.specs.Run.{openPage, refusedRun, went, stop}
+use Rattle.protocol.specs.Run.{openPage, refusedRun, inMemory, stop}
 use Rattle.protocol.specs.declared.Refusal.{Refusal}
 use Rattle.protocol.specs.declared.Refusal.the-variants.{BadFormat, WrongLength, CountTooLarge}
 use Rattle.protocol.specs.declared.Ending.the-variants.{Finished}
@@ -21,8 +21,8 @@ pub data Opens (F : Form) (L L′ : Memory) (c : Count) (r : List ℕ) : Type 0 
   refuses :
       (why : Refusal) → openPage F L c r ≡ refusedRun L why → openPage F L′ c r ≡ refusedRun L′ why → Opens F L L′ c r
   accepts :
-      openPage F L c r ≡ went F (stop (opened F c r) Finished) →
-      openPage F L′ c r ≡ went F (stop (opened F c r) Finished) → length (L .readers) ≡ F .readers → Opens F L L′ c r
+      openPage F L c r ≡ inMemory F (stop (opened F c r) Finished) →
+      openPage F L′ c r ≡ inMemory F (stop (opened F c r) Finished) → length (L .readers) ≡ F .readers → Opens F L L′ c r
 
 module _ (F : Form) (c : Count) (r : List ℕ) where
   refused-format : (L : Memory) → goodForm F ≡ false → openPage F L c r ≡ refusedRun L BadFormat
@@ -43,7 +43,7 @@ module _ (F : Form) (c : Count) (r : List ℕ) where
 
     accepted :
         (L : Memory) → goodLengths F L && eqb (length r) (F .n) ≡ true → leb (product (F .bases)) (c .0) ≡ false →
-        openPage F L c r ≡ went F (stop (opened F c r) Finished)
+        openPage F L c r ≡ inMemory F (stop (opened F c r) Finished)
     unfolding openPage
     accepted L e g = rw (good, e, g)
 

@@ -21,7 +21,7 @@ use Rattle.protocol.specs.Step.{
   gather,
   onGathered,
   stepReader,
-  begins,
+  becomes,
   carry,
 }
 use Rattle.protocol.specs.Memory.{storedReading}
@@ -80,11 +80,11 @@ module _
     fine : Fine F S σ
     fine = fine-now F S h ready lists
 
-    begins-here :
+    becomes-here :
         (y : Reading) → GoodReading F y →
-        onAnswer F room h (begins σ r y)
+        onAnswer F room h (becomes σ r y)
         ≡ onMoved h (moved (Done Nothing) (putReader (h .store) r (storedReading F y)))
-    begins-here y g =
+    becomes-here y g =
         answer-nothing F room h (withReader σ r y (bufferOf σ r))
         ∙ ap (λ (u : Here). after (Done Nothing) u)
         (holding-reader F S h ready lists r inside y (stored-whole F (in-form F S h ready lists) y g) (bufferOf σ r)
@@ -94,31 +94,31 @@ module _
 
     busy-first :
         (y : Reading) → GoodReading F y →
-        onAnswer F room h (refuseIf (busyReading (readingOf σ r)) Busy (begins σ r y))
+        onAnswer F room h (refuseIf (busyReading (readingOf σ r)) Busy (becomes σ r y))
         ≡ onMoved h
         (cond (busyReading x) (moved (Refused Busy) (h .store))
         (moved (Done Nothing) (putReader (h .store) r (storedReading F y))))
     busy-first y g =
-        ap (λ (z : Reading). onAnswer F room h (refuseIf (busyReading z) Busy (begins σ r y)))
+        ap (λ (z : Reading). onAnswer F room h (refuseIf (busyReading z) Busy (becomes σ r y)))
         (reading-now F S h ready lists r inside)
-        ∙ unless F room h (onMoved h) (busyReading x) Busy (begins σ r y) {r = moved (Refused Busy) (h .store)}
-        {y = moved (Done Nothing) (putReader (h .store) r (storedReading F y))} refl (λ _. begins-here y g)
+        ∙ unless F room h (onMoved h) (busyReading x) Busy (becomes σ r y) {r = moved (Refused Busy) (h .store)}
+        {y = moved (Done Nothing) (putReader (h .store) r (storedReading F y))} refl (λ _. becomes-here y g)
 
-    cancels : onAnswer F room h (cond (busyReading (readingOf σ r)) (begins σ r idle) (refused NothingPending))
+    cancels : onAnswer F room h (cond (busyReading (readingOf σ r)) (becomes σ r idle) (refused NothingPending))
         ≡ onMoved h (cancelStore (h .store) r)
     cancels =
-        ap (λ (z : Reading). onAnswer F room h (cond (busyReading z) (begins σ r idle) (refused NothingPending)))
+        ap (λ (z : Reading). onAnswer F room h (cond (busyReading z) (becomes σ r idle) (refused NothingPending)))
         (reading-now F S h ready lists r inside)
         ∙ go (busyReading x)
         ∙ ap (onMoved h) (sym (cancel F (in-form F S h ready lists) (h .store) r
         (reader-here F S h ready lists r inside .kept)))
       where
         go : (t : Bool)
-            → onAnswer F room h (cond t (begins σ r idle) (refused NothingPending))
+            → onAnswer F room h (cond t (becomes σ r idle) (refused NothingPending))
             ≡ onMoved h
             (cond t (moved (Done Nothing) (putReader (h .store) r (storedReading F idle)))
             (moved (Refused NothingPending) (h .store)))
-        go true = begins-here idle tt
+        go true = becomes-here idle tt
         go false = unfold onAnswer in refl
 
     -- a step, whatever it gathers
@@ -160,7 +160,7 @@ module _ (F : Form) (S : List ℕ) (room : ℕ) (h : Here) (ready : Ready F S h)
   -- what a reader's command means, where there is that reader
   read-count : (r : ℕ) → r < F .readers → onAnswer F room h
       (refuseIf (busyReading (readingOf (now F S h ready lists) r)) Busy
-      (begins (now F S h ready lists) r (ofCount [])))
+      (becomes (now F S h ready lists) r (ofCount [])))
       ≡ onMoved h (beginStore 1 0 (h .store) r)
   read-count r inside =
       busy-first F S room h ready lists r inside (ofCount []) (begun-count F (in-form F S h ready lists))
@@ -170,7 +170,7 @@ module _ (F : Form) (S : List ℕ) (room : ℕ) (h : Here) (ready : Ready F S h)
   read-record : (r attempts : ℕ) → r < F .readers → onAnswer F room h
       (refuseIf (eqb attempts 0) NoSuch
       (refuseIf (busyReading (readingOf (now F S h ready lists) r)) Busy
-      (begins (now F S h ready lists) r (ofRecord attempts 0 0 []))))
+      (becomes (now F S h ready lists) r (ofRecord attempts 0 0 []))))
       ≡ onMoved h (beginRecordStore attempts (h .store) r)
   unfolding beginRecordStore
   read-record r attempts inside =

@@ -4,36 +4,37 @@ use mathlib.Core.List.{List, [], _∷_, _++_}
 use Prim.Native.Nat.{ℕ}
 use Rattle.protocol.specs.Form.{Form}
 use Rattle.protocol.specs.Memory.{Memory}
-use Rattle.protocol.specs.Load.{load}
-use Rattle.protocol.specs.Run.{openPage, Run, Ran, run, runs, left}
+use Rattle.protocol.specs.Run.{openPage, Run, Ran, run, RunOver, runs, left}
 use Rattle.protocol.specs.History.{history, fresh}
-use Rattle.protocol.specs.Demand.{handed, Demand3}
-use Rattle.protocol.proofs.Theorem.Claim.{demand3}
+use Rattle.protocol.specs.Demand.{acceptsOf, Demand3}
+use Rattle.protocol.proofs.Theorem.Claim.{general}
 use Rattle.page.specs.Carry.{Carries}
 
 runs-snoc :
-    (F : Form) (S : List ℕ) (L : Memory) (xs : List Run) (x : Run) →
-    runs F S L (xs ++ (x ∷ [])) ≡ runs F S L xs ++ (run F S (left L (runs F S L xs)) x ∷ [])
+    (F : Form) (L : Memory) (xs : List RunOver) (x : RunOver) →
+    runs F L (xs ++ (x ∷ [])) ≡ runs F L xs ++ (run F (x .records) (left L (runs F L xs)) (x .run) ∷ [])
 unfolding runs
-runs-snoc F S L [] x = refl
-runs-snoc F S L (z ∷ xs) x =
-    ap (λ (ys : List Ran). run F S L z ∷ ys) (runs-snoc F S (run F S L z .memory) xs x)
+runs-snoc F L [] x = refl
+runs-snoc F L (z ∷ xs) x =
+    let y : Ran = run F (z .records) L (z .run) in
+    ap (λ (ys : List Ran). y ∷ ys) (runs-snoc F (y .memory) xs x)
 
 left-snoc : (L : Memory) (ys : List Ran) (y : Ran) → left L (ys ++ (y ∷ [])) ≡ y .memory
 left-snoc L [] y = refl
 left-snoc L (z ∷ ys) y = left-snoc (z .memory) ys y
 
 pub carries : (F : Form) (S : List ℕ) (L : Memory) (x : Run) → Carries F S L x
-carries F S L x L₀ c r₀ xs e now =
+carries F S L x L₀ c r₀ xs e now more =
     let L₁ : Memory = openPage F L₀ c r₀ .memory in
-    let ys : List Ran = runs F S L₁ xs ++ (run F S L x ∷ []) in
-    let all : runs F S L₁ (xs ++ (x ∷ [])) ≡ ys =
-    runs-snoc F S L₁ xs x ∙ ap (λ (M : Memory). runs F S L₁ xs ++ (run F S M x ∷ [])) now
+    let z : RunOver = record { records = S; run = x } in
+    let ys : List Ran = runs F L₁ xs ++ (run F S L x ∷ []) in
+    let all : runs F L₁ (xs ++ (z ∷ [])) ≡ ys =
+    runs-snoc F L₁ xs z ∙ ap (λ (M : Memory). runs F L₁ xs ++ (run F S M x ∷ [])) now
     in
     subst
-    (λ (M : Memory). Demand3 F c r₀ S ys (load F M) (history F S (fresh F) (handed (xs ++ (x ∷ [])) ys)))
-    (left-snoc L₁ (runs F S L₁ xs) (run F S L x))
+    (λ (M : Memory). Demand3 F c r₀ (xs ++ (z ∷ [])) ys M (history F (fresh F) (xs ++ (z ∷ [])) (acceptsOf ys)))
+    (left-snoc L₁ (runs F L₁ xs) (run F S L x))
     (subst
-    (λ (zs : List Ran).
-    Demand3 F c r₀ S zs (load F (left L₁ zs)) (history F S (fresh F) (handed (xs ++ (x ∷ [])) zs)))
-    all (demand3 F L₀ c r₀ S (xs ++ (x ∷ [])) e))
+    (λ (us : List Ran).
+    Demand3 F c r₀ (xs ++ (z ∷ [])) us (left L₁ us) (history F (fresh F) (xs ++ (z ∷ [])) (acceptsOf us)))
+    all (general F L₀ c r₀ (xs ++ (z ∷ [])) e more))

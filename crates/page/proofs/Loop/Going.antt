@@ -12,7 +12,7 @@ use Rattle.protocol.specs.State.{State}
 use Rattle.protocol.specs.Outcome.{entry}
 use Rattle.protocol.specs.Memory.{storedWriting}
 use Rattle.protocol.specs.Load.{load}
-use Rattle.protocol.specs.Run.{Event, Went, stop, logged, logAfter}
+use Rattle.protocol.specs.Run.{Event, Execution, stop, logged, logAfter}
 use Rattle.protocol.specs.declared.Ending.{Ending}
 use Rattle.protocol.specs.declared.Ending.the-variants.{Finished}
 use Rattle.protocol.proofs.Log.Fits.{length-logAfter, log-written, log-past}
@@ -27,7 +27,7 @@ use Rattle.page.proofs.Carry.Stands.{fine-now}
 use Rattle.page.proofs.Carry.Holding.{holding-load, holding-lists, holding-ready, length-holding, holding-now}
 
 -- some commands carried out, and then the rest
-abbrev pub behind : List Event → Went → Went
+abbrev pub behind : List Event → Execution → Execution
 behind es x = record { state = x .state; events = es ++ x .events; ending = x .ending }
 
 pub record Going
@@ -138,7 +138,7 @@ module _ {F : Form} {S s log₀ : List ℕ} {h₀ : Here} (ready : Ready F S h�
         ≡ ranHere (record { done = p .done; written = p .written; ending = e; writer = h .writer }) h log
     unfolding wentHere
     ends-here e q =
-        let leaves : Went → RanHere =
+        let leaves : Execution → RanHere =
         λ x.
         ranHere (ranOf (x .events) (x .ending) (storedWriting (x .state .writing))) (holding F (x .state) h₀)
         (logAfter (x .events) log₀)

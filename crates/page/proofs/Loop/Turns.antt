@@ -12,7 +12,7 @@ use Rattle.protocol.specs.State.{State}
 use Rattle.protocol.specs.Outcome.{entry}
 use Rattle.protocol.specs.Command.{Decoded, over, unknown, command, decode}
 use Rattle.protocol.specs.Step.{Answer as Meant, refused, done, carry}
-use Rattle.protocol.specs.Run.{Event, Went, first, stop, answered, logged, logAfter}
+use Rattle.protocol.specs.Run.{Event, Execution, prepend, stop, answered, logged, logAfter}
 use Rattle.protocol.specs.declared.Command.{Command}
 use Rattle.protocol.specs.declared.Outcome.{Outcome}
 use Rattle.protocol.specs.declared.Refusal.{Refusal}
@@ -102,7 +102,7 @@ module _
           }
 
           went-on :
-              full F S room (g .state) left ≡ first event (full F S (room - length (entry o)) σ′ t) →
+              full F S room (g .state) left ≡ prepend event (full F S (room - length (entry o)) σ′ t) →
               Law (Turn.goes next (holding F σ′ h) (overlay log (p .written) (entry o)))
           went-on q =
               let front : Front left x t = decode-front left x t d in
@@ -122,9 +122,9 @@ module _
                       g .rest
                       ∙ ap (behind (g .events)) q
                       ∙ (λ i.
-                      let y : Went = full F S (less i) σ′ (sym rest i) in
+                      let y : Execution = full F S (less i) σ′ (sym rest i) in
                       record { state = y .state; events = g .events ++ (event ∷ y .events); ending = y .ending })
-                      ∙ (let y : Went = full F S (length log₀ - next .written) σ′ (drop (next .at) s) in
+                      ∙ (let y : Execution = full F S (length log₀ - next .written) σ′ (drop (next .at) s) in
                       ap (λ (l : List Event). record { state = y .state; events = l; ending = y .ending })
                       (sym (append-assoc (g .events) (event ∷ []) (y .events))));
                   counted = omega (arith, length-append (g .events) (event ∷ []), g .counted);
@@ -159,7 +159,7 @@ module _
               (full? : Bool) → ltb room (length (entry o)) ≡ full? →
               full F S room (g .state) left
               ≡ cond full? (stop (g .state) (Refused LogFull))
-              (first (record { after = σ′; outcome = o }) (full F S (room - length (entry o)) σ′ t)) →
+              (prepend (record { after = σ′; outcome = o }) (full F S (room - length (entry o)) σ′ t)) →
               Law
               (let y = onAnswer F room h (done σ′ o) in
               onAfter p (length s - length t) log (y .here) (y .answer))

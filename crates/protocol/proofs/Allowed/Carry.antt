@@ -23,7 +23,7 @@ use Rattle.protocol.specs.State.{
   busyWriting,
   busyReading,
 }
-use Rattle.protocol.specs.Step.{done, inRecords, begins, carry}
+use Rattle.protocol.specs.Step.{done, inRecords, becomes, carry}
 use Rattle.protocol.specs.Allowed.{allowed}
 use Rattle.protocol.specs.declared.Command.{Command}
 use Rattle.protocol.specs.declared.Command.the-variants.{
@@ -52,8 +52,8 @@ use Rattle.protocol.proofs.Allowed.Writer.{writer-kept}
 use Rattle.protocol.proofs.Allowed.Reader.{begun-count, reader-kept}
 
 module _ (F : Form) (S : List ℕ) (range : InRange F) (σ : State) (fine : Fine F S σ) where
-  begins-kept : (r : ℕ) (x : Reading) → r < F .readers → GoodReading F x → Kept F S (begins σ r x)
-  begins-kept r x h g =
+  becomes-kept : (r : ℕ) (x : Reading) → r < F .readers → GoodReading F x → Kept F S (becomes σ r x)
+  becomes-kept r x h g =
       fine-reader F S σ fine r x (bufferOf σ r) g
       (all-get (λ b. length b ≡ F .n) (σ .buffers) r [] (fine .sized .each) (omega (arith, fine .sized .buffers)))
 
@@ -88,21 +88,21 @@ module _ (F : Form) (S : List ℕ) (range : InRange F) (σ : State) (fine : Fine
       (λ a.
       unless F S (busyReading (readingOf σ r)) Busy _
       (λ b.
-      begins-kept r (ofCount []) (leb-false (F .readers) r a) (begun-count F range)))
+      becomes-kept r (ofCount []) (leb-false (F .readers) r a) (begun-count F range)))
   kept (BeginRecordRead r allowed) =
       unless F S (leb (F .readers) r || eqb allowed 0) NoSuch _
       (λ a.
       let (h, n) = neither (leb (F .readers) r) (eqb allowed 0) a in
       unless F S (busyReading (readingOf σ r)) Busy _
       (λ b.
-      begins-kept r (ofRecord allowed 0 0 []) (leb-false (F .readers) r h)
+      becomes-kept r (ofRecord allowed 0 0 []) (leb-false (F .readers) r h)
       (omega (arith, eqb-false allowed 0 n), omega (arith, range .versions), omega arith, refl)))
   kept (ReaderStep r) =
       unless F S (leb (F .readers) r) NoSuch _ (λ a. reader-kept F range S σ r fine (leb-false (F .readers) r a))
   kept (Cancel r) =
       unless F S (leb (F .readers) r) NoSuch _
       (λ a.
-      by-cond (Kept F S) (busyReading (readingOf σ r)) (λ b. begins-kept r idle (leb-false (F .readers) r a) tt)
+      by-cond (Kept F S) (busyReading (readingOf σ r)) (λ b. becomes-kept r idle (leb-false (F .readers) r a) tt)
       (λ b. tt))
 
 pub carry-kept : (F : Form) (S : List ℕ) (σ : State) (x : Command) → goodForm F ≡ true → Sized F σ

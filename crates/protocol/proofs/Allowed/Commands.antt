@@ -12,7 +12,7 @@ use Rattle.protocol.specs.Outcome.{entry}
 use Rattle.protocol.specs.Command.{Decoded, over, unknown, command, decode}
 use Rattle.protocol.specs.Step.{Answer, refused, done, carry}
 use Rattle.protocol.specs.Allowed.{allowed}
-use Rattle.protocol.specs.Run.{Event, Went, stop, answered, decoded, commands}
+use Rattle.protocol.specs.Run.{Event, Execution, stop, answered, decoded, commands}
 use Rattle.protocol.specs.declared.Ending.{Ending}
 use Rattle.protocol.specs.declared.Ending.the-variants.{Finished, Refused}
 use Rattle.protocol.specs.declared.Refusal.the-variants.{LogFull}
@@ -24,18 +24,18 @@ use Rattle.protocol.proofs.Allowed.Kept.{Fine, Kept}
 use Rattle.protocol.proofs.Allowed.Carry.{kept}
 
 -- of the state at the end, and of the state after each command
-pub record Throughout (P : State → Type 0) (x : Went) : Type 0 where
+pub record Throughout (P : State → Type 0) (x : Execution) : Type 0 where
   pub end : P (x .state)
   pub each : All (λ (e : Event). P (e .after)) (x .events)
 
 module _ (F : Form) (S : List ℕ) (range : InRange F) where
-  abbrev Goes : (ℕ → State → List ℕ → Went) → Type 0
+  abbrev Goes : (ℕ → State → List ℕ → Execution) → Type 0
   Goes next = (room : ℕ) (σ : State) (s : List ℕ) → Fine F S σ → Throughout (Fine F S) (next room σ s)
 
   stops : (σ : State) (e : Ending) → Fine F S σ → Throughout (Fine F S) (stop σ e)
   stops σ e fine = record { end = fine; each = tt }
 
-  answered-fine : (next : ℕ → State → List ℕ → Went) → Goes next → (room : ℕ) (σ : State) (s : List ℕ) → Fine F S σ
+  answered-fine : (next : ℕ → State → List ℕ → Execution) → Goes next → (room : ℕ) (σ : State) (s : List ℕ) → Fine F S σ
       → (a : Answer) → Kept F S a → Throughout (Fine F S) (answered next room σ s a)
   unfolding answered
   answered-fine next goes room σ s fine (refused why) k = stops σ (Refused why) fine
@@ -45,7 +45,7 @@ module _ (F : Form) (S : List ℕ) (range : InRange F) where
       let rest = goes (room - length (entry o)) σ′ s k in
       record { end = rest .end; each = (k, rest .each) })
 
-  decoded-fine : (next : ℕ → State → List ℕ → Went) → Goes next → (room : ℕ) (σ : State) → Fine F S σ → (x : Decoded)
+  decoded-fine : (next : ℕ → State → List ℕ → Execution) → Goes next → (room : ℕ) (σ : State) → Fine F S σ → (x : Decoded)
       → Throughout (Fine F S) (decoded F S next room σ x)
   unfolding decoded
   decoded-fine next goes room σ fine over = stops σ Finished fine

@@ -15,17 +15,17 @@ use Rattle.protocol.specs.State.{Reading, ofRecord, State, bufferOf, wit
 use Rattle.protocol.specs.Outcome.{isAccepted}
 use Rattle.protocol.specs.Step.{Gathered, gathered, gather, onGathered}
 use Rattle.protocol.specs.Run.{Event}
-use Rattle.protocol.specs.History.{Read, History, read, readerSteps}
-use Rattle.protocol.specs.Demand.{Agree, bothRecord}
+use Rattle.protocol.specs.History.{Read, History, read, readerSteps, recordPending}
+use Rattle.protocol.specs.Demand.{Reads, readsRecord}
 use Rattle.protocol.specs.declared.Outcome.the-variants.{Nothing}
 use Rattle.protocol.proofs.Lists.Cases.{by-cond, both}
-use Rattle.protocol.proofs.Orders.Marks.{Mark, pending}
-use Rattle.protocol.proofs.Orders.Keeps.{Keeps, keeps-cons}
+use Rattle.protocol.proofs.Linearization.Marks.{Mark, pending}
+use Rattle.protocol.proofs.Linearization.Keeps.{Keeps, keeps-cons}
 use Rattle.protocol.proofs.Records.Phase.{Trying}
-use Rattle.protocol.proofs.Records.Attempt.{try-early, try-moment, try-middle, try-late}
-use Rattle.protocol.proofs.Records.Order.{ord-pending}
+use Rattle.protocol.proofs.Records.Attempt.{try-early, try-point, try-middle, try-late}
+use Rattle.protocol.proofs.Records.Linearization.{ord-pending}
 use Rattle.protocol.proofs.Records.Readers.{record-kept, record-reader}
-use Rattle.protocol.proofs.Commands.Invariant.{recordBusy, Proper, steps-some, Inv, GoesTo}
+use Rattle.protocol.proofs.Commands.Invariant.{Proper, steps-some, Inv, GoesTo}
 use Rattle.protocol.proofs.Commands.Reader.{
   recordsAt,
   event,
@@ -42,8 +42,8 @@ other-false : (s t : Bool) → s && t ≡ false → s ≡ true → t ≡ false
 other-false true t h e = h
 other-false false t h e = absurd (let z : _≡_ {A = ℕ} 0 1 = cc in omega arith)
 
-module _ (F : Form) (x : Count) (r₀ S : List ℕ) (ok : Proper F r₀) (tale : List Event) (σ : State) (h : History)
-    (inv : Inv F x r₀ S tale σ h) (r : ℕ) (reader : r < F .readers) (a f s : ℕ) (ds es ts : List ℕ)
+module _ (F : Form) (x : Count) (r₀ : List ℕ) (ok : Proper F r₀) (story : List Event) (σ : State) (h : History)
+    (inv : Inv F x r₀ story σ h) (r : ℕ) (reader : r < F .readers) (a f s : ℕ) (ds es ts : List ℕ)
     (trying : Trying F r₀ (h .now) (recordsAt r₀ h) (h .records) (inv .marks) r s ds ts (bufferOf σ r))
     (few : s < recordSteps F) (before : length es ≡ f * recordSteps F) (fa : f < a) where
   abbrev buffer : List ℕ
@@ -57,7 +57,7 @@ module _ (F : Form) (x : Count) (r₀ S : List ℕ) (ok : Proper F r₀) (tale :
 
   -- what follows from what it gathered
   abbrev Comes : Gathered → Type 0
-  Comes g = GoesTo F x r₀ S tale (λ acc. readerSteps F h r acc (Read.ofRecord a es ts)) (onGathered σ r g)
+  Comes g = GoesTo F x r₀ story (λ acc. readerSteps F h r acc (Read.recordRead a es ts)) (onGathered σ r g)
 
   size : length buffer ≡ F .n
   size = inv .records .buffered r reader
@@ -65,13 +65,13 @@ module _ (F : Form) (x : Count) (r₀ S : List ℕ) (ok : Proper F r₀) (tale :
   -- not the last step
   unfinished :
       (st : Reading) (b : List ℕ) → suc s < recordSteps F →
-      Inv F x r₀ S (tale ++ (event σ r st b Nothing ∷ [])) (withReader σ r st b)
-      (read h r (Read.ofRecord a es us) (h .countReads) (h .attempts)) → Comes (gathered st b Nothing)
+      Inv F x r₀ (story ++ (event σ r st b Nothing ∷ [])) (withReader σ r st b)
+      (read h r (Read.recordRead a es us) (h .countReads) (h .attempts)) → Comes (gathered st b Nothing)
   unfolding onGathered readerSteps isAccepted
   unfinished st b l i = rw (ne-eqb (suc (length ts)) (recordSteps F) (omega (arith, trying .same))) i
 
-  agree : (ds′ : List ℕ) → suc s < recordSteps F → Agree F (ofRecord a f (suc s) ds′) (Read.ofRecord a es us)
-  agree ds′ l = bothRecord before (ap suc (trying .same)) l fa
+  agree : (ds′ : List ℕ) → suc s < recordSteps F → Reads F (ofRecord a f (suc s) ds′) (Read.recordRead a es us)
+  agree ds′ l = readsRecord before (ap suc (trying .same)) l fa
 
   reads-v2 : s < F .q → Comes (gathered (ofRecord a f (suc s) (d ∷ ds)) buffer Nothing)
   reads-v2 g = go (ltb (suc s) (F .q)) refl
@@ -82,34 +82,34 @@ module _ (F : Form) (x : Count) (r₀ S : List ℕ) (ok : Proper F r₀) (tale :
       go : (t : Bool) → ltb (suc s) (F .q) ≡ t → Comes (gathered (ofRecord a f (suc s) (d ∷ ds)) buffer Nothing)
       go true e =
           unfinished (ofRecord a f (suc s) (d ∷ ds)) buffer more
-          (goes-on F x r₀ S ok tale σ h inv r reader (ofRecord a f (suc s) (d ∷ ds)) (Read.ofRecord a es us) buffer
+          (goes-on F x r₀ ok story σ h inv r reader (ofRecord a f (suc s) (d ∷ ds)) (Read.recordRead a es us) buffer
           (agree (d ∷ ds) more) size tt
-          (try-early F r₀ (ok .versions) (ok .bytes) (ok .size) (h .now) (recordBusy (h .pending)) (h .records)
+          (try-early F r₀ (ok .versions) (ok .bytes) (ok .size) (h .now) (recordPending (h .pending)) (h .records)
           (inv .records .fit) (inv .records .numbered) (σ .page) (inv .records .holds) (inv .marks) r s ds ts buffer
           trying (ltb-true (suc s) (F .q) e)))
       go false e =
           let last : suc s ≡ F .q = omega (arith, ltb-false (suc s) (F .q) e) in
           let st : Reading = ofRecord a f (suc s) (d ∷ ds) in
-          let rd : Read = Read.ofRecord a es us in
+          let rd : Read = Read.recordRead a es us in
           let ev : Event = event σ r st buffer Nothing in
           let G : List Mark = pending r (suc (h .now)) ∷ inv .marks in
           let keeps : Keeps (λ i. i ≢ r) (h .now) (inv .marks) G =
           keeps-cons _ (h .now) (inv .marks) (pending r (suc (h .now))) refl
           in
           unfinished st buffer more
-          (reader-inv F x r₀ S ok tale σ h inv r reader Nothing st rd buffer (h .countReads) (h .attempts) G
+          (reader-inv F x r₀ ok story σ h inv r reader Nothing st rd buffer (h .countReads) (h .attempts) G
           (agree (d ∷ ds) more) (record { reads = λ i t q. q; attempts = λ i t q. q }) tt
-          (counts-on F x r₀ S ok tale σ h inv r reader Nothing st rd buffer tt)
-          (record-reader F r₀ (steps-some ok) tale (h .now) (σ .page)
-          (recordBusy (h .pending)) (h .records) (σ .readings) (h .reads) (σ .buffers) (h .attempts) (inv .marks)
+          (counts-on F x r₀ ok story σ h inv r reader Nothing st rd buffer tt)
+          (record-reader F r₀ (steps-some ok) story (h .now) (σ .page)
+          (recordPending (h .pending)) (h .records) (σ .readings) (h .reads) (σ .buffers) (h .attempts) (inv .marks)
           (inv .records) ev (inv .time) r st rd buffer (h .attempts) G
-          (at-readings F x r₀ S ok tale σ h inv r reader) (at-reads F x r₀ S ok tale σ h inv r reader)
-          (at-buffers F x r₀ S ok tale σ h inv r reader) size keeps
-          (try-moment F r₀ (ok .versions) (ok .bytes) (ok .size) (h .now) (recordBusy (h .pending)) (h .records)
+          (at-readings F x r₀ ok story σ h inv r reader) (at-reads F x r₀ ok story σ h inv r reader)
+          (at-buffers F x r₀ ok story σ h inv r reader) size keeps
+          (try-point F r₀ (ok .versions) (ok .bytes) (ok .size) (h .now) (recordPending (h .pending)) (h .records)
           (inv .records .fit) (inv .records .numbered) (σ .page) (inv .records .holds) (inv .marks) r s ds ts buffer
           trying last (inv .records .ord .last))
-          (record-kept F r₀ (steps-some ok) tale (h .now) (σ .page)
-          (recordBusy (h .pending)) (h .records) (σ .readings) (h .reads) (σ .buffers) (h .attempts) (inv .marks)
+          (record-kept F r₀ (steps-some ok) story (h .now) (σ .page)
+          (recordPending (h .pending)) (h .records) (σ .readings) (h .reads) (σ .buffers) (h .attempts) (inv .marks)
           (inv .records) ev (inv .time) (λ i. i ≢ r) G keeps)
           (ord-pending F (h .now) (recordsAt r₀ h (F .q + F .n)) (h .records) (h .attempts) (inv .marks)
           (inv .records .ord) r)))
@@ -119,9 +119,9 @@ module _ (F : Form) (x : Count) (r₀ S : List ℕ) (ok : Proper F r₀) (tale :
   reads-byte g k =
       let more : suc s < recordSteps F = omega (arith, ok .versions) in
       unfinished (ofRecord a f (suc s) ds) (set buffer (s - F .q) d) more
-      (goes-on F x r₀ S ok tale σ h inv r reader (ofRecord a f (suc s) ds) (Read.ofRecord a es us)
+      (goes-on F x r₀ ok story σ h inv r reader (ofRecord a f (suc s) ds) (Read.recordRead a es us)
       (set buffer (s - F .q) d) (agree ds more) (length-set buffer (s - F .q) d ∙ size) tt
-      (try-middle F r₀ (ok .versions) (ok .bytes) (ok .size) (h .now) (recordBusy (h .pending)) (h .records)
+      (try-middle F r₀ (ok .versions) (ok .bytes) (ok .size) (h .now) (recordPending (h .pending)) (h .records)
       (inv .records .fit) (inv .records .numbered) (σ .page) (inv .records .holds) (inv .marks) r s ds ts buffer trying
       g k size))
 
@@ -129,7 +129,7 @@ module _ (F : Form) (x : Count) (r₀ S : List ℕ) (ok : Proper F r₀) (tale :
       F .q + F .n ≤ s →
       Trying F r₀ (suc (h .now)) (recordsAt r₀ h) (h .records) (inv .marks) r (suc s) (d ∷ ds) us buffer
   after-v1 g =
-      try-late F r₀ (ok .versions) (ok .bytes) (ok .size) (h .now) (recordBusy (h .pending)) (h .records)
+      try-late F r₀ (ok .versions) (ok .bytes) (ok .size) (h .now) (recordPending (h .pending)) (h .records)
       (inv .records .fit) (inv .records .numbered) (σ .page) (inv .records .holds) (inv .marks) r s ds ts buffer trying
       g few
 
@@ -137,7 +137,7 @@ module _ (F : Form) (x : Count) (r₀ S : List ℕ) (ok : Proper F r₀) (tale :
       F .q + F .n ≤ s → suc s < recordSteps F → Comes (gathered (ofRecord a f (suc s) (d ∷ ds)) buffer Nothing)
   reads-v1 g more =
       unfinished (ofRecord a f (suc s) (d ∷ ds)) buffer more
-      (goes-on F x r₀ S ok tale σ h inv r reader (ofRecord a f (suc s) (d ∷ ds)) (Read.ofRecord a es us) buffer
+      (goes-on F x r₀ ok story σ h inv r reader (ofRecord a f (suc s) (d ∷ ds)) (Read.recordRead a es us) buffer
       (agree (d ∷ ds) more) size tt (after-v1 g))
 
   -- a digit of a version, not the last
@@ -155,7 +155,7 @@ module _ (F : Form) (x : Count) (r₀ S : List ℕ) (ok : Proper F r₀) (tale :
           more
 
   pub steps-attempt :
-      GoesTo F x r₀ S tale (λ acc. readerSteps F h r acc (Read.ofRecord a es ts))
+      GoesTo F x r₀ story (λ acc. readerSteps F h r acc (Read.recordRead a es ts))
       (onGathered σ r
       (gather F r (getD (σ .page) (getD (attemptOrder F) s 0) 0) (ofRecord a f s ds) (bufferOf σ r)))
   unfolding gather
@@ -169,7 +169,7 @@ module _ (F : Form) (x : Count) (r₀ S : List ℕ) (ok : Proper F r₀) (tale :
       (λ k. reads-digit e (ltb-true (suc s) (recordSteps F) k))
       (λ k.
       let full : suc s ≡ recordSteps F = omega (arith, ltb-false (suc s) (recordSteps F) k) in
-      ends-attempt F x r₀ S ok tale σ h inv r reader a f (d ∷ ds) es ts
+      ends-attempt F x r₀ ok story σ h inv r reader a f (d ∷ ds) es ts
       (subst
       (λ (n : ℕ). Trying F r₀ (suc (h .now)) (recordsAt r₀ h) (h .records) (inv .marks) r n (d ∷ ds) us buffer) full
       (after-v1 (omega (arith, ok .versions))))

@@ -19,8 +19,8 @@ use Rattle.protocol.specs.State.{idle, ofCount, State, bufferOf}
 use Rattle.protocol.specs.Outcome.{isAccepted}
 use Rattle.protocol.specs.Step.{Gathered, copyA, copyB, shows, endCount, gather, onGathered}
 use Rattle.protocol.specs.Run.{Event}
-use Rattle.protocol.specs.History.{Read, CountRead, History, readerSteps}
-use Rattle.protocol.specs.Demand.{bothIdle, bothCount, firstOf, lastOf, writtenBefore, begunBefore, latest}
+use Rattle.protocol.specs.History.{Read, CountRead, History, readerSteps, countPending}
+use Rattle.protocol.specs.Demand.{idles, readsCount, firstOf, lastOf, writtenBefore, begunBefore, latest}
 use Rattle.protocol.specs.declared.Outcome.{Outcome}
 use Rattle.protocol.specs.declared.Outcome.the-variants.{Shown}
 use Rattle.protocol.proofs.Lists.Cases.{by-cond}
@@ -28,7 +28,7 @@ use Rattle.protocol.proofs.Items.Times.{desc-now, first-le}
 use Rattle.protocol.proofs.Counts.Span.{Within}
 use Rattle.protocol.proofs.Counts.Part.{Counting, gathers, finish, count-kept, count-reader}
 use Rattle.protocol.proofs.Records.Finish.{outcome-new}
-use Rattle.protocol.proofs.Commands.Invariant.{countBusy, Proper, Inv, GoesTo}
+use Rattle.protocol.proofs.Commands.Invariant.{Proper, Inv, GoesTo}
 use Rattle.protocol.proofs.Commands.Reader.{
   countAt,
   event,
@@ -39,8 +39,8 @@ use Rattle.protocol.proofs.Commands.Reader.{
   goes-on,
 }
 
-module _ (F : Form) (x : Count) (r₀ S : List ℕ) (ok : Proper F r₀) (tale : List Event) (σ : State) (h : History)
-    (inv : Inv F x r₀ S tale σ h) (r : ℕ) (reader : r < F .readers) (ds ts : List ℕ)
+module _ (F : Form) (x : Count) (r₀ : List ℕ) (ok : Proper F r₀) (story : List Event) (σ : State) (h : History)
+    (inv : Inv F x r₀ story σ h) (r : ℕ) (reader : r < F .readers) (ds ts : List ℕ)
     (counting : Counting F x (h .now) (countAt x h) (h .counts) ds ts) (few : length ds < countSteps F) where
   abbrev buffer : List ℕ
   buffer = bufferOf σ r
@@ -53,11 +53,11 @@ module _ (F : Form) (x : Count) (r₀ S : List ℕ) (ok : Proper F r₀) (tale :
 
   -- what follows from what it gathered
   abbrev Comes : Gathered → Type 0
-  Comes g = GoesTo F x r₀ S tale (λ acc. readerSteps F h r acc (Read.ofCount ts)) (onGathered σ r g)
+  Comes g = GoesTo F x r₀ story (λ acc. readerSteps F h r acc (Read.countRead ts)) (onGathered σ r g)
 
   more : Counting F x (suc (h .now)) (countAt x h) (h .counts) ds′ us
   more =
-      gathers F x (ok .places) (h .now) (countBusy (h .pending)) (h .counts) (inv .counts .fit) (σ .page) ds ts
+      gathers F x (ok .places) (h .now) (countPending (h .pending)) (h .counts) (inv .counts .fit) (σ .page) ds ts
       (inv .counts .holds) counting few
 
   abbrev low : ℕ
@@ -74,25 +74,25 @@ module _ (F : Form) (x : Count) (r₀ S : List ℕ) (ok : Proper F r₀) (tale :
         let y : CountRead = record { reader = r; steps = us } in
         let e : Event = event σ r idle buffer o in
         rw (eq-eqb (suc (length ts)) (countSteps F) (omega (arith, counting .same)))
-        (reader-inv F x r₀ S ok tale σ h inv r reader o idle Read.none buffer (y ∷ h .countReads) (h .attempts)
-        (inv .marks) bothIdle (record { reads = λ i t q. inr q; attempts = λ i t q. q }) (inl (refl, refl))
-        (count-reader F x (ok .places) tale (h .now) (σ .page) (countBusy (h .pending)) (h .counts) (σ .readings)
-        (h .reads) (h .countReads) (inv .counts) e (inv .time) r idle Read.none (y ∷ h .countReads)
-        (at-readings F x r₀ S ok tale σ h inv r reader) (at-reads F x r₀ S ok tale σ h inv r reader) tt (
+        (reader-inv F x r₀ ok story σ h inv r reader o idle Read.noRead buffer (y ∷ h .countReads) (h .attempts)
+        (inv .marks) idles (record { reads = λ i t q. inr q; attempts = λ i t q. q }) (inl (refl, refl))
+        (count-reader F x (ok .places) story (h .now) (σ .page) (countPending (h .pending)) (h .counts) (σ .readings)
+        (h .reads) (h .countReads) (inv .counts) e (inv .time) r idle Read.noRead (y ∷ h .countReads)
+        (at-readings F x r₀ ok story σ h inv r reader) (at-reads F x r₀ ok story σ h inv r reader) tt (
           record {
             span = record {
               shown = record { 0 = c };
-              ends = outcome-new tale (h .now) (inv .time) e;
+              ends = outcome-new story (h .now) (inv .time) e;
               low = l;
               high = g;
             };
             begins = first-le (desc-now (counting .desc));
             ends = (omega arith, le-refl _);
           },
-          count-kept F x (ok .places) tale (h .now) (σ .page) (countBusy (h .pending)) (h .counts) (σ .readings)
+          count-kept F x (ok .places) story (h .now) (σ .page) (countPending (h .pending)) (h .counts) (σ .readings)
               (h .reads) (h .countReads) (inv .counts) e (inv .time),
         ))
-        (records-on F x r₀ S ok tale σ h inv r reader o idle Read.none buffer (inv .records .buffered r reader) tt))
+        (records-on F x r₀ ok story σ h inv r reader o idle Read.noRead buffer (inv .records .buffered r reader) tt))
 
     -- the copies are not crossed
     ends-count :
@@ -104,7 +104,7 @@ module _ (F : Form) (x : Count) (r₀ S : List ℕ) (ok : Proper F r₀) (tale :
     ends-count Crossed w = absurd w
 
   pub steps-count :
-      GoesTo F x r₀ S tale (λ acc. readerSteps F h r acc (Read.ofCount ts))
+      GoesTo F x r₀ story (λ acc. readerSteps F h r acc (Read.countRead ts))
       (onGathered σ r
       (gather F r (getD (σ .page) (getD (countReadOrder F) (length ds) 0) 0) (ofCount ds) (bufferOf σ r)))
   unfolding gather onGathered readerSteps isAccepted
@@ -113,10 +113,10 @@ module _ (F : Form) (x : Count) (r₀ S : List ℕ) (ok : Proper F r₀) (tale :
       (λ a.
       let l : suc (length ds) < countSteps F = ltb-true (suc (length ds)) (countSteps F) a in
       rw (ne-eqb (suc (length ts)) (countSteps F) (omega (arith, counting .same)))
-      (goes-on F x r₀ S ok tale σ h inv r reader (ofCount ds′) (Read.ofCount us) buffer
-      (bothCount (ap suc (counting .same)) l) (inv .records .buffered r reader) more tt))
+      (goes-on F x r₀ ok story σ h inv r reader (ofCount ds′) (Read.countRead us) buffer
+      (readsCount (ap suc (counting .same)) l) (inv .records .buffered r reader) more tt))
       (λ a.
       let full : suc (length ds) ≡ countSteps F = omega (arith, ltb-false (suc (length ds)) (countSteps F) a) in
       ends-count full (compare (copyA (m F) ds′) (copyB (m F) ds′))
-      (finish F x (ok .places) (h .now) (countBusy (h .pending)) (h .counts) (inv .counts .fit) ds′ us more full refl
+      (finish F x (ok .places) (h .now) (countPending (h .pending)) (h .counts) (inv .counts .fit) ds′ us more full refl
       (inv .counts .below)))

@@ -25,7 +25,7 @@ use Rattle.protocol.specs.Demand.{lastOf, firstOf, writtenBefore, begunB
 use Rattle.protocol.specs.declared.Outcome.the-variants.{Nothing}
 use Rattle.protocol.proofs.Lists.Cases.{by-cond, all-map}
 use Rattle.protocol.proofs.Lists.Places.{look-is}
-use Rattle.protocol.proofs.Lists.Tale.{snoc-old}
+use Rattle.protocol.proofs.Lists.Story.{snoc-old}
 use Rattle.protocol.proofs.Positions.Counts.{countRead, countDigitLow, countLow, count-apart, count-below}
 use Rattle.protocol.proofs.Items.Times.{Desc, desc-le, desc-now, first-le, first-more}
 use Rattle.protocol.proofs.Items.Writes.{
@@ -64,23 +64,23 @@ module _ (F : Form) (x : Count) where
 
   abbrev pub CRel : ℕ → (ℕ → ℕ) → List (Write Count) → Reading → Read → Type 0
   CRel now c ps idle rd = Unit {0}
-  CRel now c ps (ofCount ds) Read.none = ⊥
-  CRel now c ps (ofCount ds) (Read.ofCount ts) = Counting now c ps ds ts
-  CRel now c ps (ofCount ds) (Read.ofRecord a es ts) = ⊥
+  CRel now c ps (ofCount ds) Read.noRead = ⊥
+  CRel now c ps (ofCount ds) (Read.countRead ts) = Counting now c ps ds ts
+  CRel now c ps (ofCount ds) (Read.recordRead a es ts) = ⊥
   CRel now c ps (ofRecord a f s ds) rd = Unit {0}
 
-  pub record Done (tale : List Event) (now : ℕ) (ps : List (Write Count)) (r : CountRead) : Type 0 where
-    pub span : Span (countSteps F) x tale ps r
+  pub record Done (story : List Event) (now : ℕ) (ps : List (Write Count)) (r : CountRead) : Type 0 where
+    pub span : Span (countSteps F) x story ps r
     pub begins : firstOf (r .steps) ≤ now
     pub ends : (1 ≤ lastOf (r .steps)) × (lastOf (r .steps) ≤ now)
 
-  pub record CountInv (tale : List Event) (now : ℕ) (page : List ℕ) (b : Bool) (ps : List (Write Count))
+  pub record CountInv (story : List Event) (now : ℕ) (page : List ℕ) (b : Bool) (ps : List (Write Count))
       (sts : List Reading) (mine : List Read) (xs : List CountRead) : Type 0 where
     pub fit : Fit num (countSteps F) now x b ps
     pub below : (x .0 < product (F .bases)) × All (λ p. p .what .0 < product (F .bases)) ps
     pub holds : Holds (countSteps F) (countOrder F) (countDigits F) page (cur num b x ps)
-    pub each : (r : ℕ) → CRel now (cur num b x ps) ps (getD sts r idle) (getD mine r Read.none)
-    pub dones : All (Done tale now ps) xs
+    pub each : (r : ℕ) → CRel now (cur num b x ps) ps (getD sts r idle) (getD mine r Read.noRead)
+    pub dones : All (Done story now ps) xs
 
   cur-below : (b : Bool) (ps : List (Write Count)) (k z : ℕ) → x .0 < z → All (λ p. p .what .0 < z) ps
       → cur num b x ps k < z
@@ -94,24 +94,24 @@ module _ (F : Form) (x : Count) where
     crel-grow : (st : Reading) (rd : Read) → CRel now (cur num b x ps) ps st rd
         → CRel (suc now) (cur num b′ x ps′) ps′ st rd
     crel-grow idle rd h = tt
-    crel-grow (ofCount ds) Read.none h = h
-    crel-grow (ofCount ds) (Read.ofRecord a es ts) h = h
+    crel-grow (ofCount ds) Read.noRead h = h
+    crel-grow (ofCount ds) (Read.recordRead a es ts) h = h
     crel-grow (ofRecord a f s ds) rd h = tt
-    crel-grow (ofCount ds) (Read.ofCount ts) h = record {
+    crel-grow (ofCount ds) (Read.countRead ts) h = record {
       same = h .same;
       desc = desc-le (omega arith) (h .desc);
       fell = λ l p e. rw (g .full (firstOf ts) (omega (arith, first-le (h .desc)))) (fell-up (g .up p) (h .fell l p e));
     }
 
-    done-grow : (tale : List Event) (e : Event) → length tale ≡ now → (r : CountRead) → Done tale now ps r
-        → Done (tale ++ (e ∷ [])) (suc now) ps′ r
-    done-grow tale e l r d =
+    done-grow : (story : List Event) (e : Event) → length story ≡ now → (r : CountRead) → Done story now ps r
+        → Done (story ++ (e ∷ [])) (suc now) ps′ r
+    done-grow story e l r d =
         let full = g .full (firstOf (r .steps)) (omega arith) in
         let first = g .first (lastOf (r .steps)) (omega arith) in
         record {
           span = record {
             shown = d .span .shown;
-            ends = snoc-old (λ (e : Event). e .outcome) tale (e ∷ []) Nothing (lastOf (r .steps) - 1) (omega arith)
+            ends = snoc-old (λ (e : Event). e .outcome) story (e ∷ []) Nothing (lastOf (r .steps) - 1) (omega arith)
                 ∙ d .span .ends;
             low = omega (arith, full, first, d .span .low);
             high = omega (arith, full, first, d .span .high);
@@ -165,18 +165,18 @@ module _ (F : Form) (x : Count) where
           (spanned F pos ds _ (cur num b x ps 0) (h .fell (omega arith) 0 (omega arith)) l
           (cur-below b ps 0 (product (F .bases)) (below .0) (below .1)))
 
-    module _ (tale : List Event) (now : ℕ) (page : List ℕ) (b : Bool) (ps : List (Write Count)) (sts : List Reading)
+    module _ (story : List Event) (now : ℕ) (page : List ℕ) (b : Bool) (ps : List (Write Count)) (sts : List Reading)
         (mine : List Read) (xs : List CountRead)
-        (inv : CountInv tale now page b ps sts mine xs) (e : Event) (time : length tale ≡ now) where
-      pub count-kept : All (Done (tale ++ (e ∷ [])) (suc now) ps) xs
+        (inv : CountInv story now page b ps sts mine xs) (e : Event) (time : length story ≡ now) where
+      pub count-kept : All (Done (story ++ (e ∷ [])) (suc now) ps) xs
       count-kept =
-          all-map xs (done-grow now b b ps ps (same-grow num (countSteps F) x sizePos now b ps) tale e time)
+          all-map xs (done-grow now b b ps ps (same-grow num (countSteps F) x sizePos now b ps) story e time)
           (inv .dones)
 
       -- a reader's command
       pub count-reader : (r : ℕ) (st : Reading) (rd : Read) (ys : List CountRead) → r < length sts → r < length mine
-          → CRel (suc now) (cur num b x ps) ps st rd → All (Done (tale ++ (e ∷ [])) (suc now) ps) ys
-          → CountInv (tale ++ (e ∷ [])) (suc now) page b ps (set sts r st) (set mine r rd) ys
+          → CRel (suc now) (cur num b x ps) ps st rd → All (Done (story ++ (e ∷ [])) (suc now) ps) ys
+          → CountInv (story ++ (e ∷ [])) (suc now) page b ps (set sts r st) (set mine r rd) ys
       count-reader r st rd ys h g rel dones = record {
         fit = fit-later num (countSteps F) x sizePos now b ps (inv .fit);
         below = inv .below;
@@ -186,44 +186,44 @@ module _ (F : Form) (x : Count) where
       }
         where
           go : (i : ℕ) → Dec (i ≡ r)
-              → CRel (suc now) (cur num b x ps) ps (getD (set sts r st) i idle) (getD (set mine r rd) i Read.none)
-          go i (yes q) = rw (q, getD-set-same sts r st idle h, getD-set-same mine r rd Read.none g) rel
-          go i (no q) = rw (getD-set-other sts r i st idle q, getD-set-other mine r i rd Read.none q)
+              → CRel (suc now) (cur num b x ps) ps (getD (set sts r st) i idle) (getD (set mine r rd) i Read.noRead)
+          go i (yes q) = rw (q, getD-set-same sts r st idle h, getD-set-same mine r rd Read.noRead g) rel
+          go i (no q) = rw (getD-set-other sts r i st idle q, getD-set-other mine r i rd Read.noRead q)
               (crel-grow now b b ps ps (same-grow num (countSteps F) x sizePos now b ps) (getD sts i idle)
-              (getD mine i Read.none) (inv .each i))
+              (getD mine i Read.noRead) (inv .each i))
 
       -- a writer's command
       count-writer : (page′ : List ℕ) (b′ : Bool) (ps′ : List (Write Count)) → Grow num (countSteps F) x now b ps b′ ps′
           → Fit num (countSteps F) (suc now) x b′ ps′
           → All (λ p. p .what .0 < product (F .bases)) ps′
           → Holds (countSteps F) (countOrder F) (countDigits F) page′ (cur num b′ x ps′)
-          → CountInv (tale ++ (e ∷ [])) (suc now) page′ b′ ps′ sts mine xs
+          → CountInv (story ++ (e ∷ [])) (suc now) page′ b′ ps′ sts mine xs
       count-writer page′ b′ ps′ g fit below holds = record {
         fit = fit;
         below = (inv .below .0, below);
         holds = holds;
-        each = λ i. crel-grow now b b′ ps ps′ g (getD sts i idle) (getD mine i Read.none) (inv .each i);
-        dones = all-map xs (done-grow now b b′ ps ps′ g tale e time) (inv .dones);
+        each = λ i. crel-grow now b b′ ps ps′ g (getD sts i idle) (getD mine i Read.noRead) (inv .each i);
+        dones = all-map xs (done-grow now b b′ ps ps′ g story e time) (inv .dones);
       }
 
       -- of the record: another part of the page
       pub count-untouched : (q d : ℕ) → countSteps F ≤ q
-          → CountInv (tale ++ (e ∷ [])) (suc now) (set page q d) b ps sts mine xs
+          → CountInv (story ++ (e ∷ [])) (suc now) (set page q d) b ps sts mine xs
       count-untouched q d h =
           count-writer (set page q d) b ps (same-grow num (countSteps F) x sizePos now b ps)
           (fit-later num (countSteps F) x sizePos now b ps (inv .fit)) (inv .below .1)
           (λ k g. getD-set-other page q (getD (countOrder F) k 0) d 0 (omega (arith, count-below F k g))
           ∙ inv .holds k g)
 
-      pub count-same : CountInv (tale ++ (e ∷ [])) (suc now) page b ps sts mine xs
+      pub count-same : CountInv (story ++ (e ∷ [])) (suc now) page b ps sts mine xs
       count-same =
           count-writer page b ps (same-grow num (countSteps F) x sizePos now b ps)
           (fit-later num (countSteps F) x sizePos now b ps (inv .fit)) (inv .below .1) (inv .holds)
 
-    module _ (tale : List Event) (now : ℕ) (page : List ℕ) (ps : List (Write Count)) (sts : List Reading)
+    module _ (story : List Event) (now : ℕ) (page : List ℕ) (ps : List (Write Count)) (sts : List Reading)
         (mine : List Read) (xs : List CountRead) where
       -- c2 shows the last count fully written when none is pending
-      pub c2-top : CountInv tale now page false ps sts mine xs → value (F .bases) (look page (c2 F)) ≡ top num x ps
+      pub c2-top : CountInv story now page false ps sts mine xs → value (F .bases) (look page (c2 F)) ≡ top num x ps
       c2-top inv =
           ap (value (F .bases))
           (look-is page (m F) (digits (F .bases) (top num x ps)) (m F) (length-digits (F .bases) (top num x ps))
@@ -232,25 +232,25 @@ module _ (F : Form) (x : Count) where
           ∙ value-digits (F .bases) (top num x ps)
           (cur-below false ps 0 (product (F .bases)) (inv .below .0) (inv .below .1))
 
-      pub count-begin : CountInv tale now page false ps sts mine xs → (e : Event) → length tale ≡ now → (c : Count)
+      pub count-begin : CountInv story now page false ps sts mine xs → (e : Event) → length story ≡ now → (c : Count)
           → top num x ps ≤ c .0 → c .0 < product (F .bases)
-          → CountInv (tale ++ (e ∷ [])) (suc now) page true (begun c ∷ ps) sts mine xs
+          → CountInv (story ++ (e ∷ [])) (suc now) page true (begun c ∷ ps) sts mine xs
       count-begin inv e time c h g =
-          count-writer tale now page false ps sts mine xs inv e time page true (begun c ∷ ps)
+          count-writer story now page false ps sts mine xs inv e time page true (begun c ∷ ps)
           (begin-grow num (countSteps F) x sizePos now c ps)
           (begin-fit num (countSteps F) x sizePos now c ps (inv .fit) h) (g, inv .below .1)
           (λ k l. inv .holds k l
           ∙ ap (λ v. getD (countDigits F v) k 0) (sym (begin-cur num (countSteps F) x sizePos c ps k)))
 
-      pub count-step : (p : Write Count) → CountInv tale now page true (p ∷ ps) sts mine xs → (e : Event)
-          → length tale ≡ now → countSteps F ≤ length page
+      pub count-step : (p : Write Count) → CountInv story now page true (p ∷ ps) sts mine xs → (e : Event)
+          → length story ≡ now → countSteps F ≤ length page
           → (t : Bool) → still (countSteps F) p ≡ t
-          → CountInv (tale ++ (e ∷ [])) (suc now)
+          → CountInv (story ++ (e ∷ [])) (suc now)
           (set page (getD (countOrder F) (length (p .steps)) 0)
           (getD (countDigits F (p .what .0)) (length (p .steps)) 0)) t
           (on p (suc now) ∷ ps) sts mine xs
       count-step p inv e time big t s =
-          count-writer tale now page true (p ∷ ps) sts mine xs inv e time _ t _
+          count-writer story now page true (p ∷ ps) sts mine xs inv e time _ t _
           (step-grow num (countSteps F) x sizePos now p ps (inv .fit) t s)
           (step-fit num (countSteps F) x sizePos now p ps (inv .fit) t s) (inv .below .1)
           (holds-set (countSteps F) (countOrder F) (countDigits F) page (cur num true x (p ∷ ps)) _ (length (p .steps))

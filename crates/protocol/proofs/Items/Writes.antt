@@ -37,7 +37,7 @@ module _ {A : Type 0} (num : A → ℕ) where
   cur true x [] k = num x
   cur true x (p ∷ ps) k = cond (ltb k (length (p .steps))) (num (p .what)) (top x ps)
 
-  -- all writes are whole; or the first is pending, and no lower than the one before
+  -- all writes are complete; or the first is pending, and no lower than the one before
   abbrev pub Fit : ℕ → ℕ → A → Bool → List (Write A) → Type 0
   Fit size now x false ps = All (Full size now) ps
   Fit size now x true [] = ⊥

@@ -1,7 +1,7 @@
 -- Boolean tests and what they test, and tests and facts of every or some element of a list.
 use mathlib.Core.Path.{_≡_, refl}
 use mathlib.Core.Logic.{inl, inr}
-use mathlib.Core.List.{List, [], _∷_}
+use mathlib.Core.List.{List, [], _∷_, _++_}
 use mathlib.Core.Bool.{Bool, true, false, _&&_, _||_, cond}
 use Prim.Native.Nat.{ℕ, zero, suc, _<_}
 use native.Mathlib.Omega.{arith}
@@ -74,6 +74,10 @@ module _ {A : Type 0} {P : A → Type 0} (test : A → Bool) where
   all-every (x ∷ l) f h = together (f x (h .0)) (all-every l f (h .1))
 
 module _ {A : Type 0} (P : A → Type 0) where
+  pub all-split : (l : List A) (a : A) (r : List A) → All P (l ++ (a ∷ r)) → All P l × P a
+  all-split [] a r h = (tt, h .0)
+  all-split (b ∷ l) a r h = let z = all-split l a r (h .1) in ((h .0, z .0), z .1)
+
   pub all-set : (l : List A) (i : ℕ) (a : A) → All P l → P a → All P (set l i a)
   all-set [] i a h p = tt
   all-set (x ∷ l) zero a h p = (p, h .1)

@@ -12,18 +12,18 @@ use Rattle.protocol.specs.State.{State}
 use Rattle.protocol.specs.Outcome.{entry}
 use Rattle.protocol.specs.Command.{Decoded, over, unknown, command, decode}
 use Rattle.protocol.specs.Step.{Answer, refused, done, carry}
-use Rattle.protocol.specs.Run.{Event, Went, stop, answered, decoded, commands, logged, logAfter}
+use Rattle.protocol.specs.Run.{Event, Execution, stop, answered, decoded, commands, logged, logAfter}
 use Rattle.protocol.specs.declared.Ending.the-variants.{Finished}
 use Rattle.protocol.proofs.Lists.Cases.{by-cond}
 
 -- what it logs has room
-abbrev pub Fits : ℕ → Went → Type 0
+abbrev pub Fits : ℕ → Execution → Type 0
 Fits room x = length (logged (x .events)) ≤ room
 
-abbrev AllFit : (ℕ → State → List ℕ → Went) → Type 0
+abbrev AllFit : (ℕ → State → List ℕ → Execution) → Type 0
 AllFit next = (room : ℕ) (σ : State) (s : List ℕ) → Fits room (next room σ s)
 
-answered-fits : (next : ℕ → State → List ℕ → Went) → AllFit next → (room : ℕ) (σ : State) (s : List ℕ) (a : Answer)
+answered-fits : (next : ℕ → State → List ℕ → Execution) → AllFit next → (room : ℕ) (σ : State) (s : List ℕ) (a : Answer)
     → Fits room (answered next room σ s a)
 unfolding answered
 answered-fits next fit room σ s (refused why) = omega arith
@@ -37,7 +37,7 @@ answered-fits next fit room σ s (done σ′ o) =
       ltb-false room (length (entry o)) e,
     ))
 
-decoded-fits : (F : Form) (S : List ℕ) (next : ℕ → State → List ℕ → Went) → AllFit next → (room : ℕ) (σ : State)
+decoded-fits : (F : Form) (S : List ℕ) (next : ℕ → State → List ℕ → Execution) → AllFit next → (room : ℕ) (σ : State)
     (x : Decoded) → Fits room (decoded F S next room σ x)
 unfolding decoded
 decoded-fits F S next fit room σ over = omega arith

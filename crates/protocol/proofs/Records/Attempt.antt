@@ -25,9 +25,9 @@ use Rattle.protocol.proofs.Positions.Records.{
   recordDigitMid,
   recordDigitHigh,
 }
-use Rattle.protocol.proofs.Orders.Marks.{lastPlace, Mark, pending, keep, here}
+use Rattle.protocol.proofs.Linearization.Marks.{lastPlace, Mark, pending, keep, here}
 use Rattle.protocol.proofs.Records.Numbered.{number, current, recordAs, Numbered, current-length, record-size}
-use Rattle.protocol.proofs.Records.Phase.{versionImage, wholeBefore, Bytes, Phase, early, middle, late, Trying}
+use Rattle.protocol.proofs.Records.Phase.{versionImage, completeBefore, Bytes, Phase, early, middle, late, Trying}
 
 module _ (F : Form) (r₀ : List ℕ) (pos : 0 < F .q) (posn : 0 < F .n) (size₀ : length r₀ ≡ F .n) where
   sizePos : 0 < recordSteps F
@@ -87,7 +87,7 @@ module _ (F : Form) (r₀ : List ℕ) (pos : 0 < F .q) (posn : 0 < F .n) (size�
 
     module _ (G : List Mark) (r : ℕ) where
       abbrev lo : List ℕ → ℕ
-      lo ts = wholeBefore F r₀ ps ts
+      lo ts = completeBefore F r₀ ps ts
 
       -- v2
       fell-next :
@@ -133,12 +133,12 @@ module _ (F : Form) (r₀ : List ℕ) (pos : 0 < F .q) (posn : 0 < F .n) (size�
                   fell-next s d ds ts (h .same) (a .0) (a .1) p e (digit-high s p (omega arith) (omega arith)));
             }
 
-        -- its last digit: the moment of the attempt
-        pub try-moment :
+        -- its last digit: the point of the attempt
+        pub try-point :
             suc s ≡ F .q → lastPlace (keep G) .0 ≡ c (F .q + F .n) →
             Trying F r₀ (suc now) c ps (pending r (suc now) ∷ G) r (suc s) (d ∷ ds) (suc now ∷ ts) buffer
         unfolding Early
-        try-moment l last =
+        try-point l last =
             let a = early-of (omega arith) (h .phase) in
             record {
               same = ap suc (h .same);

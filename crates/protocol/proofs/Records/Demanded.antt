@@ -21,17 +21,17 @@ use Rattle.protocol.specs.Demand.{
   outcomeAt,
   unfinished,
   Undisturbed,
-  Moment,
+  Linearized,
   Reports,
-  Order,
+  Linearization,
   Ends,
   Placing,
 }
 use Rattle.protocol.proofs.Lists.Cases.{all-map, both, together}
 use Rattle.protocol.proofs.Items.Times.{Desc, first-last}
-use Rattle.protocol.proofs.Orders.Marks.{lastPlace, Once, Mark, fixed, keep, tookAt, At}
-use Rattle.protocol.proofs.Orders.Facts.{sorted-kept}
-use Rattle.protocol.proofs.Orders.Splits.{at-has, In, at-in, in-split}
+use Rattle.protocol.proofs.Linearization.Marks.{lastPlace, Once, Mark, fixed, keep, tookAt, At}
+use Rattle.protocol.proofs.Linearization.Facts.{sorted-kept}
+use Rattle.protocol.proofs.Linearization.Splits.{at-has, In, at-in, in-split}
 use Rattle.protocol.proofs.Records.Numbered.{number, Numbered, record-place}
 use Rattle.protocol.proofs.Records.Part.{Past, FitRecords, RecordInv}
 
@@ -53,7 +53,7 @@ module _ (size : ℕ) (pos : 0 < size) (now : ℕ) (y : Attempt) (le : firstOf (
   abbrev end : ℕ
   end = lastOf (y .steps)
 
-  -- a write that is not unfinished during the attempt was begun before its end exactly if it was whole before its start
+  -- a write that is not unfinished during the attempt was begun before its end exactly if it was complete before its start
   same-test :
       (p : Write Placed) → Desc now (p .steps) → unfinished size y p ≡ false →
       writtenBefore size start p ≡ begunBefore end p
@@ -86,22 +86,22 @@ module _ (size : ℕ) (pos : 0 < size) (now : ℕ) (y : Attempt) (le : firstOf (
   agree x (p ∷ ps) d n =
       ap₂ (λ (t : Bool) (v : Placed). cond t (p .what) v) (same-test p (d .0) (n .0)) (agree x ps (d .1) (n .1))
 
-module _ (F : Form) (r₀ : List ℕ) (pos : 0 < recordSteps F) (mid : F .q + F .n < recordSteps F) (tale : List Event)
+module _ (F : Form) (r₀ : List ℕ) (pos : 0 < recordSteps F) (mid : F .q + F .n < recordSteps F) (story : List Event)
     (page : List ℕ) (b : Bool) (readings : List Reading) (buffers : List (List ℕ)) (h : History) (G : List Mark)
-    (inv : RecordInv F r₀ tale (h .now) page b (h .records) readings (h .reads) buffers (h .attempts) G) where
+    (inv : RecordInv F r₀ story (h .now) page b (h .records) readings (h .reads) buffers (h .attempts) G) where
   place-before :
-      (u k v : ℕ) → At (fixed (tookAt u k)) v G → (later : List Moment) (t : ℕ) (earlier : List Moment) →
+      (u k v : ℕ) → At (fixed (tookAt u k)) v G → (later : List Linearized) (t : ℕ) (earlier : List Linearized) →
       keep G ≡ later ++ (tookAt u t ∷ earlier) → lastPlace earlier .0 ≡ v
   place-before u k v at later t earlier q =
       in-split u v later t earlier (subst Once q (inv .ord .once)) (subst (In u v) q (at-in u v k G at))
 
   reports :
-      (later : List Moment) (t : ℕ) (earlier : List Moment) (y : Attempt) →
-      Past F r₀ tale (h .now) (h .records) G y → y .accepted ≡ true →
-      keep G ≡ later ++ (tookAt (lastOf (y .steps)) t ∷ earlier) → Reports r₀ tale h y (lastPlace earlier)
+      (later : List Linearized) (t : ℕ) (earlier : List Linearized) (y : Attempt) →
+      Past F r₀ story (h .now) (h .records) G y → y .accepted ≡ true →
+      keep G ≡ later ++ (tookAt (lastOf (y .steps)) t ∷ earlier) → Reports r₀ story h y (lastPlace earlier)
   reports later t earlier y p e q =
       let g = p .good e in
-      let v = place-before (lastOf (y .steps)) (g .moment) (g .v) (g .marked) later t earlier q in
+      let v = place-before (lastOf (y .steps)) (g .point) (g .v) (g .marked) later t earlier q in
       record {
         version = record { 0 = g .v };
         used = g .used;
@@ -110,21 +110,21 @@ module _ (F : Form) (r₀ : List ℕ) (pos : 0 < recordSteps F) (mid : F .q + F 
         number = sym v;
       }
 
-  pub record-order : Order F r₀ tale h
-  record-order = record {
+  pub record-linearization : Linearization F r₀ story h
+  record-linearization = record {
     acts = keep G;
     once = inv .ord .once;
     writes = all-map (h .records) (λ p f e. f (omega arith)) (inv .ord .writes);
     reads =
         all-map (h .attempts)
-        (λ y p e. let g = p .good e in at-has (lastOf (y .steps)) (g .moment) (g .v) G (g .marked))
+        (λ y p e. let g = p .good e in at-has (lastOf (y .steps)) (g .point) (g .v) G (g .marked))
         (inv .pasts);
     real = inv .ord .real;
     ordered = sorted-kept G (inv .ord .sorted);
     reports = λ later t earlier. all-map (h .attempts) (reports later t earlier) (inv .pasts);
   }
 
-  pub record-undisturbed : All (Undisturbed (recordSteps F) tale (h .records)) (h .attempts)
+  pub record-undisturbed : All (Undisturbed (recordSteps F) story (h .records)) (h .attempts)
   record-undisturbed =
       all-map (h .attempts)
       (λ y p n.
@@ -134,5 +134,5 @@ module _ (F : Form) (r₀ : List ℕ) (pos : 0 < recordSteps F) (mid : F .q + F 
       (fit-desc F r₀ (h .now) b (h .records) (inv .fit)) n)))
       (inv .pasts)
 
-  pub record-ends : All (λ y. Ends F tale y (outcomeAt tale (lastOf (y .steps)))) (h .attempts)
+  pub record-ends : All (λ y. Ends F story y (outcomeAt story (lastOf (y .steps)))) (h .attempts)
   record-ends = all-map (h .attempts) (λ y p. p .ends) (inv .pasts)

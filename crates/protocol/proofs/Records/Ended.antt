@@ -13,7 +13,7 @@ use Rattle.protocol.specs.History.{Write, Placed, placed}
 use Rattle.protocol.specs.Demand.{firstOf, begunBefore, latest}
 use Rattle.protocol.proofs.Items.Writes.{Fit, cur-first}
 use Rattle.protocol.proofs.Items.Seen.{Fell, fell-le}
-use Rattle.protocol.proofs.Orders.Marks.{Mark, pending, At}
+use Rattle.protocol.proofs.Linearization.Marks.{Mark, pending, At}
 use Rattle.protocol.proofs.Records.Versions.{below2, exact2, above1, exact1}
 use Rattle.protocol.proofs.Records.Numbered.{
   number,
@@ -24,7 +24,7 @@ use Rattle.protocol.proofs.Records.Numbered.{
   current-below,
   record-size,
 }
-use Rattle.protocol.proofs.Records.Phase.{versionImage, wholeBefore, Phase, early, middle, late, Trying}
+use Rattle.protocol.proofs.Records.Phase.{versionImage, completeBefore, Phase, early, middle, late, Trying}
 
 -- the versions that an attempt read: v1, and v2 before it
 abbrev pub versionB : Form → List ℕ → ℕ
@@ -34,17 +34,17 @@ abbrev pub versionA : Form → List ℕ → ℕ
 versionA F ds = value (versionBases F) (copyA (F .q) ds)
 
 module _ (F : Form) (r₀ : List ℕ) where
-  -- the buffer holds record v, and v was the last write at the attempt's moment
+  -- the buffer holds record v, and v was the last write at the attempt's point
   pub record Taken (now : ℕ) (ps : List (Write Placed)) (G : List Mark) (r v : ℕ) (ts buffer : List ℕ) : Type 0 where
-    pub moment : ℕ
-    pub marked : At (pending r moment) v G
+    pub point : ℕ
+    pub marked : At (pending r point) v G
     pub old : v ≤ length ps
-    pub within : (firstOf ts ≤ moment) × (moment ≤ suc now)
+    pub within : (firstOf ts ≤ point) × (point ≤ suc now)
     pub holds : buffer ≡ recordAs r₀ ps v
 
   pub record Ended (now : ℕ) (ps : List (Write Placed)) (G : List Mark) (r : ℕ) (ds ts buffer : List ℕ) : Type 0 where
     pub calm :
-        wholeBefore F r₀ ps ts ≡ number (latest (begunBefore (suc now)) (placed 0 r₀) ps) →
+        completeBefore F r₀ ps ts ≡ number (latest (begunBefore (suc now)) (placed 0 r₀) ps) →
         versionB F ds ≡ versionA F ds
     pub good : versionB F ds ≡ versionA F ds → Taken now ps G r (versionB F ds) ts buffer
 
@@ -55,7 +55,7 @@ module _ (F : Form) (r₀ : List ℕ) where
     c = current r₀ b ps
 
     abbrev lo : ℕ
-    lo = wholeBefore F r₀ ps ts
+    lo = completeBefore F r₀ ps ts
 
     bound : c 0 < product (versionBases F)
     bound = current-below F r₀ b ps 0 room num
@@ -118,7 +118,7 @@ module _ (F : Form) (r₀ : List ℕ) where
                 let W : ℕ = value (versionBases F) d1 in
                 let x = both-ends I J d2 d1 f g (a .1) l1 (a .4) e in
                 record {
-                  moment = t;
+                  point = t;
                   marked = rw (x .0) at at;
                   old = x .2;
                   within = k;

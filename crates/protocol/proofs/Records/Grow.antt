@@ -14,32 +14,32 @@ use Rattle.protocol.specs.History.{Write, Placed, placed, Read, Attempt}
 use Rattle.protocol.specs.Demand.{lastOf, firstOf, outcomeAt, bufferAt, Ends}
 use Rattle.protocol.specs.declared.Outcome.{Outcome}
 use Rattle.protocol.specs.declared.Outcome.the-variants.{Nothing, Shown, Accepted, GaveUp}
-use Rattle.protocol.proofs.Lists.Tale.{snoc-old}
+use Rattle.protocol.proofs.Lists.Story.{snoc-old}
 use Rattle.protocol.proofs.Items.Times.{desc-le, first-le}
 use Rattle.protocol.proofs.Items.Writes.{Grow}
 use Rattle.protocol.proofs.Items.Seen.{fell-up}
-use Rattle.protocol.proofs.Orders.Marks.{Mark, tookAt}
-use Rattle.protocol.proofs.Orders.Keeps.{Keeps}
+use Rattle.protocol.proofs.Linearization.Marks.{Mark, tookAt}
+use Rattle.protocol.proofs.Linearization.Keeps.{Keeps}
 use Rattle.protocol.proofs.Records.Numbered.{number, current, recordAs}
-use Rattle.protocol.proofs.Records.Phase.{wholeBefore, Bytes, Phase, early, middle, late, RRel}
+use Rattle.protocol.proofs.Records.Phase.{completeBefore, Bytes, Phase, early, middle, late, RRel}
 use Rattle.protocol.proofs.Records.Part.{Past}
 
 -- the story, one event longer
-module _ (tale : List Event) (e : Event) (t : ℕ) (old : t - 1 < length tale) where
-  pub outcome-old : outcomeAt (tale ++ (e ∷ [])) t ≡ outcomeAt tale t
-  outcome-old = snoc-old (λ (e : Event). e .outcome) tale (e ∷ []) Nothing (t - 1) old
+module _ (story : List Event) (e : Event) (t : ℕ) (old : t - 1 < length story) where
+  pub outcome-old : outcomeAt (story ++ (e ∷ [])) t ≡ outcomeAt story t
+  outcome-old = snoc-old (λ (e : Event). e .outcome) story (e ∷ []) Nothing (t - 1) old
 
-  pub buffer-old : (r : ℕ) → bufferAt (tale ++ (e ∷ [])) t r ≡ bufferAt tale t r
-  buffer-old r = snoc-old (λ (e : Event). bufferOf (e .after) r) tale (e ∷ []) [] (t - 1) old
+  pub buffer-old : (r : ℕ) → bufferAt (story ++ (e ∷ [])) t r ≡ bufferAt story t r
+  buffer-old r = snoc-old (λ (e : Event). bufferOf (e .after) r) story (e ∷ []) [] (t - 1) old
 
 ends-old :
-    (F : Form) (tale : List Event) (e : Event) (y : Attempt) → lastOf (y .steps) - 1 < length tale → (o : Outcome) →
-    Ends F tale y o → Ends F (tale ++ (e ∷ [])) y o
-ends-old F tale e y l Nothing h = h
-ends-old F tale e y l (Shown r c) h = h
-ends-old F tale e y l (Accepted r k v) h = h
-ends-old F tale e y l (GaveUp r k) h =
-    (h .0, h .1, h .2, h .3, buffer-old tale e (lastOf (y .steps)) l r ∙ h .4)
+    (F : Form) (story : List Event) (e : Event) (y : Attempt) → lastOf (y .steps) - 1 < length story → (o : Outcome) →
+    Ends F story y o → Ends F (story ++ (e ∷ [])) y o
+ends-old F story e y l Nothing h = h
+ends-old F story e y l (Shown r c) h = h
+ends-old F story e y l (Accepted r k v) h = h
+ends-old F story e y l (GaveUp r k) h =
+    (h .0, h .1, h .2, h .3, buffer-old story e (lastOf (y .steps)) l r ∙ h .4)
 
 module _ (F : Form) (r₀ : List ℕ) where
   pub record Ext (ok : ℕ → Type 0) (now : ℕ) (b : Bool) (ps : List (Write Placed)) (G : List Mark)
@@ -80,26 +80,26 @@ module _ (F : Form) (r₀ : List ℕ) where
         RRel F r₀ (suc now) (current r₀ b′ ps′) ps′ G′ r st rd buffer
     rrel-grow r idle rd buffer o h = tt
     rrel-grow r (ofCount ds) rd buffer o h = tt
-    rrel-grow r (ofRecord a f s ds) Read.none buffer o h = h
-    rrel-grow r (ofRecord a f s ds) (Read.ofCount ts) buffer o h = h
-    rrel-grow r (ofRecord a f s ds) (Read.ofRecord a′ es ts) buffer o h = record {
+    rrel-grow r (ofRecord a f s ds) Read.noRead buffer o h = h
+    rrel-grow r (ofRecord a f s ds) (Read.countRead ts) buffer o h = h
+    rrel-grow r (ofRecord a f s ds) (Read.recordRead a′ es ts) buffer o h = record {
       same = h .same;
       desc = desc-le (omega arith) (h .desc);
       phase =
           rw (x .grow .full (firstOf ts) (omega (arith, first-le (h .desc))))
-          (phase-grow r (wholeBefore F r₀ ps ts) ts s ds buffer o (h .phase));
+          (phase-grow r (completeBefore F r₀ ps ts) ts s ds buffer o (h .phase));
     }
 
     pub past-grow :
-        (tale : List Event) (e : Event) → length tale ≡ now → (y : Attempt) → Past F r₀ tale now ps G y →
-        Past F r₀ (tale ++ (e ∷ [])) (suc now) ps′ G′ y
-    past-grow tale e l y h =
+        (story : List Event) (e : Event) → length story ≡ now → (y : Attempt) → Past F r₀ story now ps G y →
+        Past F r₀ (story ++ (e ∷ [])) (suc now) ps′ G′ y
+    past-grow story e l y h =
         let end : ℕ = lastOf (y .steps) in
-        let old : end - 1 < length tale = omega (arith, h .times) in
+        let old : end - 1 < length story = omega (arith, h .times) in
         record {
           times = omega (arith, h .times);
           calm = λ q.
-              ap isAccepted (outcome-old tale e end old)
+              ap isAccepted (outcome-old story e end old)
               ∙ h .calm
               (sym (x .grow .full (firstOf (y .steps)) (omega (arith, h .times))) ∙ q
               ∙ x .grow .first end (omega (arith, h .times)));
@@ -107,16 +107,16 @@ module _ (F : Form) (r₀ : List ℕ) where
               let g = h .good q in
               record {
                 v = g .v;
-                moment = g .moment;
+                point = g .point;
                 used = g .used;
                 marked =
-                    x .keeps .acts (tookAt end (g .moment)) (g .v) (omega (arith, g .timely, h .times)) (g .marked);
+                    x .keeps .acts (tookAt end (g .point)) (g .v) (omega (arith, g .timely, h .times)) (g .marked);
                 old = le-trans (g .old) (x .longer);
                 timely = g .timely;
-                holds = buffer-old tale e end old (y .reader) ∙ g .holds ∙ sym (x .content (g .v) (g .old));
-                says = outcome-old tale e end old ∙ g .says;
+                holds = buffer-old story e end old (y .reader) ∙ g .holds ∙ sym (x .content (g .v) (g .old));
+                says = outcome-old story e end old ∙ g .says;
               };
           ends =
-              subst (Ends F (tale ++ (e ∷ [])) y) (sym (outcome-old tale e end old))
-              (ends-old F tale e y old (outcomeAt tale end) (h .ends));
+              subst (Ends F (story ++ (e ∷ [])) y) (sym (outcome-old story e end old))
+              (ends-old F story e y old (outcomeAt story end) (h .ends));
         }

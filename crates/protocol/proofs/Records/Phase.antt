@@ -11,7 +11,7 @@ use Rattle.protocol.specs.History.{Write, Placed, placed, Read}
 use Rattle.protocol.specs.Demand.{firstOf, writtenBefore, latest}
 use Rattle.protocol.proofs.Items.Times.{Desc}
 use Rattle.protocol.proofs.Items.Seen.{Fell}
-use Rattle.protocol.proofs.Orders.Marks.{Mark, pending, At}
+use Rattle.protocol.proofs.Linearization.Marks.{Mark, pending, At}
 use Rattle.protocol.proofs.Records.Numbered.{number, recordAs}
 
 module _ (F : Form) (r₀ : List ℕ) where
@@ -19,9 +19,9 @@ module _ (F : Form) (r₀ : List ℕ) where
   abbrev pub versionImage : ℕ → List ℕ
   versionImage v = recordDigits F v r₀
 
-  -- the number of the last record write that is whole before the attempt begins
-  abbrev pub wholeBefore : List (Write Placed) → List ℕ → ℕ
-  wholeBefore ps ts = number (latest (writtenBefore (recordSteps F) (firstOf ts)) (placed 0 r₀) ps)
+  -- the number of the last record write that is complete before the attempt begins
+  abbrev pub completeBefore : List (Write Placed) → List ℕ → ℕ
+  completeBefore ps ts = number (latest (writtenBefore (recordSteps F) (firstOf ts)) (placed 0 r₀) ps)
 
   -- the first k bytes: each of a record whose number lies from I to J
   abbrev pub Bytes : List (Write Placed) → List ℕ → ℕ → ℕ → ℕ → Type 0
@@ -29,7 +29,7 @@ module _ (F : Form) (r₀ : List ℕ) where
       (i : ℕ) → i < k →
       (v : ℕ) × ((I ≤ v) × (v ≤ J) × (v ≤ length ps)) × (getD buffer i 0 ≡ getD (recordAs r₀ ps v) i 0)
 
-  -- c names the number that stands at each position; the attempt's moment is the command that read v2's last digit
+  -- c names the number that stands at each position; the attempt's point is the command that read v2's last digit
   pub data Phase (c : ℕ → ℕ) (ps : List (Write Placed)) (G : List Mark) (r now lo : ℕ)
       (ts : List ℕ) (s : ℕ) (ds buffer : List ℕ) : Type 0 where
     early :
@@ -50,7 +50,7 @@ module _ (F : Form) (r₀ : List ℕ) where
       (ds ts buffer : List ℕ) : Type 0 where
     pub same : length ts ≡ s
     pub desc : Desc now ts
-    pub phase : Phase c ps G r now (wholeBefore ps ts) ts s ds buffer
+    pub phase : Phase c ps G r now (completeBefore ps ts) ts s ds buffer
 
   pub try-begin :
       (now : ℕ) (c : ℕ → ℕ) (ps : List (Write Placed)) (G : List Mark) (r : ℕ) (buffer : List ℕ) → 0 < F .q →
@@ -62,6 +62,6 @@ module _ (F : Form) (r₀ : List ℕ) where
   abbrev pub RRel : ℕ → (ℕ → ℕ) → List (Write Placed) → List Mark → ℕ → Reading → Read → List ℕ → Type 0
   RRel now c ps G r idle x buffer = Unit {0}
   RRel now c ps G r (ofCount ds) x buffer = Unit {0}
-  RRel now c ps G r (ofRecord a f s ds) Read.none buffer = ⊥
-  RRel now c ps G r (ofRecord a f s ds) (Read.ofCount ts) buffer = ⊥
-  RRel now c ps G r (ofRecord a f s ds) (Read.ofRecord a′ es ts) buffer = Trying now c ps G r s ds ts buffer
+  RRel now c ps G r (ofRecord a f s ds) Read.noRead buffer = ⊥
+  RRel now c ps G r (ofRecord a f s ds) (Read.countRead ts) buffer = ⊥
+  RRel now c ps G r (ofRecord a f s ds) (Read.recordRead a′ es ts) buffer = Trying now c ps G r s ds ts buffer

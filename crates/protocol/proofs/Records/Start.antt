@@ -15,7 +15,7 @@ use Rattle.protocol.proofs.Lists.Places.{getD-all}
 use Rattle.protocol.proofs.Positions.Records.{RecordAt, recordAt, length-start}
 use Rattle.protocol.proofs.Positions.Steps.{version-after}
 use Rattle.protocol.proofs.Positions.Opened.{D, P, opened-front, opened-v2}
-use Rattle.protocol.proofs.Records.Order.{ord-start}
+use Rattle.protocol.proofs.Records.Linearization.{ord-start}
 use Rattle.protocol.proofs.Records.Part.{HoldsRecords, RecordInv}
 
 module _ (F : Form) (c : Count) (r₀ : List ℕ) (size₀ : length r₀ ≡ F .n) where

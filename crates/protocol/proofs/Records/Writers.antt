@@ -35,8 +35,8 @@ use Rattle.protocol.proofs.Items.Writes.{
   step-grow,
 }
 use Rattle.protocol.proofs.Items.Seen.{holds-set}
-use Rattle.protocol.proofs.Orders.Marks.{Mark, fixed, wroteAt}
-use Rattle.protocol.proofs.Orders.Keeps.{Keeps, keeps-same, keeps-cons}
+use Rattle.protocol.proofs.Linearization.Marks.{Mark, fixed, wroteAt}
+use Rattle.protocol.proofs.Linearization.Keeps.{Keeps, keeps-same, keeps-cons}
 use Rattle.protocol.proofs.Records.Numbered.{
   number,
   topRecord,
@@ -48,7 +48,7 @@ use Rattle.protocol.proofs.Records.Numbered.{
   record-old,
   record-new,
 }
-use Rattle.protocol.proofs.Records.Order.{Ord, ord-begin, ord-step, ord-wrote}
+use Rattle.protocol.proofs.Records.Linearization.{Ord, ord-begin, ord-step, ord-wrote}
 use Rattle.protocol.proofs.Records.Part.{HoldsRecords, FitRecords, RecordInv}
 use Rattle.protocol.proofs.Records.Grow.{Ext}
 use Rattle.protocol.proofs.Records.Readers.{record-writer}
@@ -60,12 +60,12 @@ module _ (F : Form) (r₀ : List ℕ) (pos : 0 < recordSteps F) where
   abbrev x₀ : Placed
   x₀ = placed 0 r₀
 
-  module _ (tale : List Event) (now : ℕ) (page : List ℕ) (ps : List (Write Placed)) (readings : List Reading)
+  module _ (story : List Event) (now : ℕ) (page : List ℕ) (ps : List (Write Placed)) (readings : List Reading)
       (reads : List Read) (buffers : List (List ℕ)) (ys : List Attempt) (G : List Mark) where
     -- v1 shows the number of record writes when none is pending
     pub v1-top :
         length r₀ ≡ F .n → 0 < product (versionBases F) →
-        RecordInv F r₀ tale now page false ps readings reads buffers ys G →
+        RecordInv F r₀ story now page false ps readings reads buffers ys G →
         value (versionBases F) (look page (v1 F)) ≡ length ps
     v1-top size₀ room inv =
         let T : ℕ = topRecord r₀ ps in
@@ -77,17 +77,17 @@ module _ (F : Form) (r₀ : List ℕ) (pos : 0 < recordSteps F) where
         ∙ value-digits (versionBases F) T (top-below F r₀ ps room (inv .numbered))
         ∙ numbered-top F r₀ ps (inv .numbered)
 
-    module _ (e : Event) (time : length tale ≡ now) where
+    module _ (e : Event) (time : length story ≡ now) where
       -- a record write begins
       pub record-begin :
-          RecordInv F r₀ tale now page false ps readings reads buffers ys G → (r : List ℕ) → length r ≡ F .n →
+          RecordInv F r₀ story now page false ps readings reads buffers ys G → (r : List ℕ) → length r ≡ F .n →
           suc (length ps) < product (versionBases F) →
-          RecordInv F r₀ (tale ++ (e ∷ [])) (suc now) page true (begun (placed (suc (length ps)) r) ∷ ps) readings
+          RecordInv F r₀ (story ++ (e ∷ [])) (suc now) page true (begun (placed (suc (length ps)) r) ∷ ps) readings
           reads buffers ys G
       record-begin inv r l h =
           let x : Placed = placed (suc (length ps)) r in
           let T : topRecord r₀ ps ≡ length ps = numbered-top F r₀ ps (inv .numbered) in
-          record-writer F r₀ pos tale now page false ps readings reads buffers ys G inv e time page true
+          record-writer F r₀ pos story now page false ps readings reads buffers ys G inv e time page true
           (begun x ∷ ps) G
           (record {
             grow = begin-grow number w x₀ pos now x ps;
@@ -113,11 +113,11 @@ module _ (F : Form) (r₀ : List ℕ) (pos : 0 < recordSteps F) where
           (getD (recordDigits F (number (p .what)) (p .what .content)) (length (p .steps)) 0)
 
       pub record-step :
-          (p : Write Placed) → RecordInv F r₀ tale now page true (p ∷ ps) readings reads buffers ys G →
+          (p : Write Placed) → RecordInv F r₀ story now page true (p ∷ ps) readings reads buffers ys G →
           countSteps F + recordSteps F ≤ length page → F .q + F .n < recordSteps F → (t : Bool) →
           still (recordSteps F) p ≡ t →
           (G′ : List Mark)
-          × RecordInv F r₀ (tale ++ (e ∷ [])) (suc now)
+          × RecordInv F r₀ (story ++ (e ∷ [])) (suc now)
           (set page (getD (recordOrder F) (length (p .steps)) 0)
           (getD (recordDigits F (number (p .what)) (p .what .content)) (length (p .steps)) 0)) t
           (on p (suc now) ∷ ps) readings reads buffers ys G′
@@ -153,16 +153,16 @@ module _ (F : Form) (r₀ : List ℕ) (pos : 0 < recordSteps F) where
           next :
               (G′ : List Mark) → Keeps (λ i. Unit {0}) now G G′ →
               Ord F (suc now) (current r₀ t (on p (suc now) ∷ ps) (F .q + F .n)) (on p (suc now) ∷ ps) ys G′ →
-              RecordInv F r₀ (tale ++ (e ∷ [])) (suc now) (written p) t (on p (suc now) ∷ ps) readings reads buffers
+              RecordInv F r₀ (story ++ (e ∷ [])) (suc now) (written p) t (on p (suc now) ∷ ps) readings reads buffers
               ys G′
           next G′ k o =
-              record-writer F r₀ pos tale now page true (p ∷ ps) readings reads buffers ys G inv e time (written p) t
+              record-writer F r₀ pos story now page true (p ∷ ps) readings reads buffers ys G inv e time (written p) t
               (on p (suc now) ∷ ps) G′ (ext G′ k) (step-fit number w x₀ pos now p ps fit t s) (inv .numbered) holds o
 
           go :
               Dec (length (p .steps) ≡ F .q + F .n) →
               (G′ : List Mark)
-              × RecordInv F r₀ (tale ++ (e ∷ [])) (suc now) (written p) t (on p (suc now) ∷ ps) readings reads buffers
+              × RecordInv F r₀ (story ++ (e ∷ [])) (suc now) (written p) t (on p (suc now) ∷ ps) readings reads buffers
               ys G′
           go (yes q) = (
             fixed (wroteAt (p .what .place) (suc now)) ∷ G,

@@ -12,23 +12,23 @@ use Rattle.protocol.specs.State.{State}
 use Rattle.protocol.specs.Outcome.{entry}
 use Rattle.protocol.specs.Command.{Decoded, over, unknown, command, decode}
 use Rattle.protocol.specs.Step.{Answer, refused, done, carry}
-use Rattle.protocol.specs.Run.{Went, Event, first, stop, answered, commands, logged}
+use Rattle.protocol.specs.Run.{Execution, Event, prepend, stop, answered, commands, logged}
 use Rattle.protocol.specs.declared.Refusal.the-variants.{LogFull}
 use Rattle.protocol.specs.declared.Ending.the-variants.{Finished, Refused}
 use Rattle.protocol.proofs.Runs.Decode.{decode-some, decode-shorter, decode-append}
 use Rattle.protocol.proofs.Runs.Fuel.{full, full-over, full-unknown, full-command}
 
 -- all that two runs did, in turn
-abbrev pub inTurn : Went → Went → Went
+abbrev pub inTurn : Execution → Execution → Execution
 inTurn x y = record { state = y .state; events = x .events ++ y .events; ending = y .ending }
 
 -- the room that a run leaves
-abbrev pub roomLeft : ℕ → Went → ℕ
+abbrev pub roomLeft : ℕ → Execution → ℕ
 roomLeft room x = room - length (logged (x .events))
 
 module _ (F : Form) (S u : List ℕ) where
   -- y is x, and then u
-  abbrev Goes : ℕ → Went → Went → Type 0
+  abbrev Goes : ℕ → Execution → Execution → Type 0
   Goes room x y = x .ending ≡ Finished → y ≡ inTurn x (full F S (roomLeft room x) (x .state) u)
 
   goes-answered : (room : ℕ) (σ : State) (t : List ℕ)
@@ -43,13 +43,13 @@ module _ (F : Form) (S u : List ℕ) where
 
       go : (test : Bool)
           → Goes room
-          (cond test (stop σ (Refused LogFull)) (first event (full F S (room - length (entry o)) σ′ t)))
-          (cond test (stop σ (Refused LogFull)) (first event (full F S (room - length (entry o)) σ′ (t ++ u))))
+          (cond test (stop σ (Refused LogFull)) (prepend event (full F S (room - length (entry o)) σ′ t)))
+          (cond test (stop σ (Refused LogFull)) (prepend event (full F S (room - length (entry o)) σ′ (t ++ u))))
       go true e = absurd (let z : _≡_ {A = ℕ} 0 1 = cc in omega arith)
       go false e =
-          let w : Went = full F S (room - length (entry o)) σ′ t in
-          ap (first event) (h (room - length (entry o)) σ′ e)
-          ∙ ap (λ r. first event (inTurn w (full F S r (w .state) u)))
+          let w : Execution = full F S (room - length (entry o)) σ′ t in
+          ap (prepend event) (h (room - length (entry o)) σ′ e)
+          ∙ ap (λ r. prepend event (inTurn w (full F S r (w .state) u)))
           (omega (arith, length-append (entry o) (logged (w .events))))
 
   goes-decoded : (n room : ℕ) (σ : State) (k : ℕ) (s : List ℕ) → length s ≤ n
@@ -58,7 +58,7 @@ module _ (F : Form) (S u : List ℕ) where
       → (d : Decoded) → decode (k ∷ s) ≡ d → Goes room (full F S room σ (k ∷ s)) (full F S room σ ((k ∷ s) ++ u))
   goes-decoded n room σ k s h again over d e = absurd (decode-some k s d)
   goes-decoded n room σ k s h again unknown d e =
-      let f = ap (λ (w : Went). w .ending) (full-unknown F S room σ (k ∷ s) d) in
+      let f = ap (λ (w : Execution). w .ending) (full-unknown F S room σ (k ∷ s) d) in
       absurd (let z : _≡_ {A = ℕ} 0 1 = cc f in omega arith)
   goes-decoded n room σ k s h again (command x t) d e =
       subst₂ (Goes room) (sym (full-command F S room σ (k ∷ s) x t d))

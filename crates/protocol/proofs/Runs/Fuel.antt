@@ -12,7 +12,7 @@ use Rattle.protocol.specs.State.{State}
 use Rattle.protocol.specs.Outcome.{entry}
 use Rattle.protocol.specs.Command.{Decoded, over, unknown, command, decode}
 use Rattle.protocol.specs.Step.{Answer, refused, done, carry}
-use Rattle.protocol.specs.Run.{Went, first, stop, answered, decoded, commands}
+use Rattle.protocol.specs.Run.{Execution, prepend, stop, answered, decoded, commands}
 use Rattle.protocol.specs.declared.Command.{Command}
 use Rattle.protocol.specs.declared.Refusal.the-variants.{UnknownCommand, LogFull}
 use Rattle.protocol.specs.declared.Ending.the-variants.{Finished, Refused}
@@ -20,7 +20,7 @@ use Rattle.protocol.proofs.Runs.Decode.{decode-shorter}
 
 -- the rest of a run, of what it is given
 abbrev Next : Type 0
-Next = ℕ → State → List ℕ → Went
+Next = ℕ → State → List ℕ → Execution
 
 answered-same : (next next′ : Next) (room : ℕ) (σ : State) (s : List ℕ)
     → ((room : ℕ) (σ : State) → next room σ s ≡ next′ room σ s) → (a : Answer)
@@ -30,7 +30,7 @@ answered-same next next′ room σ s h (refused why) = refl
 answered-same next next′ room σ s h (done σ′ o) =
     ap
     (λ w.
-    cond (ltb room (length (entry o))) (stop σ (Refused LogFull)) (first (record { after = σ′; outcome = o }) w))
+    cond (ltb room (length (entry o))) (stop σ (Refused LogFull)) (prepend (record { after = σ′; outcome = o }) w))
     (h (room - length (entry o)) σ′)
 
 decoded-same : (F : Form) (S : List ℕ) (next next′ : Next) (room : ℕ) (σ : State) (d : Decoded)
@@ -56,7 +56,7 @@ module _ (F : Form) (S : List ℕ) where
       fuel-enough fuel more room σ t (omega (arith, decode-shorter s x t e)) (omega (arith, decode-shorter s x t e)))
 
   -- a run with fuel enough
-  abbrev pub full : ℕ → State → List ℕ → Went
+  abbrev pub full : ℕ → State → List ℕ → Execution
   full room σ s = commands F S (length s) room σ s
 
   pub full-over : (room : ℕ) (σ : State) → full room σ [] ≡ stop σ Finished

@@ -11,7 +11,7 @@ use Rattle.protocol.specs.State.{State}
 use Rattle.protocol.specs.Allowed.{allowed}
 use Rattle.protocol.specs.Memory.{Memory, stored, goodLengths}
 use Rattle.protocol.specs.Load.{load, validMemory}
-use Rattle.protocol.specs.Run.{Went, commands, Run, Ran, went, refusedRun, run, logged}
+use Rattle.protocol.specs.Run.{Execution, commands, Run, Ran, inMemory, refusedRun, run, logged}
 use Rattle.protocol.specs.declared.Refusal.the-variants.{BadFormat, WrongLength, InvalidState}
 use Rattle.protocol.specs.declared.Ending.the-variants.{Finished}
 use Rattle.protocol.proofs.Memory.Sized.{Sized}
@@ -26,11 +26,11 @@ pub record Started (F : Form) (S : List ℕ) (L : Memory) : Type 0 where
   pub state : validMemory F S L ≡ true
 
 -- the commands of a run on memory
-abbrev pub commandsOn : Form → List ℕ → Memory → Run → Went
+abbrev pub commandsOn : Form → List ℕ → Memory → Run → Execution
 commandsOn F S L x = commands F S (length (x .given)) (length (x .log)) (load F L) (x .given)
 
 pub run-started : (F : Form) (S : List ℕ) (L : Memory) (x : Run) → Started F S L
-    → run F S L x ≡ went F (commandsOn F S L x)
+    → run F S L x ≡ inMemory F (commandsOn F S L x)
 unfolding run
 run-started F S L x h = rw (h .form, h .lengths, h .lent, h .state)
 
@@ -53,7 +53,7 @@ unfolding run
 finished-started F S L x h =
     let (form, lengths, lent, state) =
     pass L (goodForm F) (goodLengths F L) (eqb (length S % F .n) 0) (validMemory F S L)
-    (went F (commandsOn F S L x)) h in
+    (inMemory F (commandsOn F S L x)) h in
     record { form = form; lengths = lengths; lent = lent; state = state }
 
 -- the memory that a run leaves is as good to start from, if its state is
@@ -82,16 +82,16 @@ pub run-compose : (F : Form) (S : List ℕ) (L : Memory) (s u log rest : List �
 run-compose F S L s u log rest e room sized fine =
     let first : Run = record { given = s; log = log } in
     let next : Run = record { given = u; log = rest } in
-    let w : Went = commandsOn F S L first in
+    let w : Execution = commandsOn F S L first in
     let started : Started F S L = finished-started F S L first e in
-    let ran : run F S L first ≡ went F w = run-started F S L first started in
+    let ran : run F S L first ≡ inMemory F w = run-started F S L first started in
     let room′ : length log - length (logged (w .events)) ≡ length rest =
     sym (room ∙ ap (λ (x : Ran). length log - length (logged (x .events))) ran) in
     let back : w .state ≡ load F (stored F (w .state)) =
     sym (load-stored F S (w .state) (started .form) sized fine) in
     run-started F S L (record { given = s ++ u; log = log }) started
-    ∙ ap (went F) (compose F S (length log) (load F L) s u (sym (ap (λ (x : Ran). x .ending) ran) ∙ e))
-    ∙ ap₂ (λ r σ. went F (inTurn w (commands F S (length u) r σ u))) room′ back
-    ∙ ap (ranInTurn (went F w))
+    ∙ ap (inMemory F) (compose F S (length log) (load F L) s u (sym (ap (λ (x : Ran). x .ending) ran) ∙ e))
+    ∙ ap₂ (λ r σ. inMemory F (inTurn w (commands F S (length u) r σ u))) room′ back
+    ∙ ap (ranInTurn (inMemory F w))
     (sym (run-started F S (stored F (w .state)) next (left-started F S L (w .state) started sized fine)))
     ∙ ap (λ (x : Ran). ranInTurn x (run F S (x .memory) next)) (sym ran)

@@ -12,7 +12,7 @@ use Rattle.protocol.specs.State.{State}
 use Rattle.protocol.specs.Outcome.{entry}
 use Rattle.protocol.specs.Command.{Decoded, over, unknown, command, decode}
 use Rattle.protocol.specs.Step.{Answer, refused, done, carry}
-use Rattle.protocol.specs.Run.{Went, Event, first, stop, answered, commands}
+use Rattle.protocol.specs.Run.{Execution, Event, prepend, stop, answered, commands}
 use Rattle.protocol.specs.declared.Refusal.the-variants.{LogFull}
 use Rattle.protocol.specs.declared.Ending.the-variants.{Finished, Refused}
 use Rattle.protocol.proofs.Runs.Decode.{Front, decode-front, decode-some}
@@ -31,7 +31,7 @@ stateAt-event σ default (e ∷ es) zero h = refl
 stateAt-event σ default (e ∷ es) (suc j) h = stateAt-event (e .after) default es j (omega arith)
 
 -- what is left of a run if it ends well after j commands
-abbrev pub upTo : State → ℕ → Went → Went
+abbrev pub upTo : State → ℕ → Execution → Execution
 upTo σ j x = record { state = stateAt σ (x .events) j; events = take j (x .events); ending = Finished }
 
 module _ (F : Form) (S : List ℕ) where
@@ -39,7 +39,7 @@ module _ (F : Form) (S : List ℕ) where
   abbrev Reached : (room : ℕ) → State → (s : List ℕ) → ℕ → Type 0
   Reached room σ s j = (k : ℕ) × (k ≤ length s) × (full F S room σ (take k s) ≡ upTo σ j (full F S room σ s))
 
-  abbrev Answered : (room : ℕ) → State → (t : List ℕ) → ℕ → (List ℕ → Went) → Type 0
+  abbrev Answered : (room : ℕ) → State → (t : List ℕ) → ℕ → (List ℕ → Execution) → Type 0
   Answered room σ t j f = (k : ℕ) × (k ≤ length t) × (f (take k t) ≡ upTo σ j (f t))
 
   reached-answered : (room : ℕ) (σ : State) (t : List ℕ) (j : ℕ)
@@ -50,15 +50,15 @@ module _ (F : Form) (S : List ℕ) where
   reached-answered room σ t j again (refused why) h = absurd (omega arith)
   reached-answered room σ t j again (done σ′ o) h = go (ltb room (length (entry o))) h
     where
-      next : List ℕ → Went
-      next t = first (record { after = σ′; outcome = o }) (full F S (room - length (entry o)) σ′ t)
+      next : List ℕ → Execution
+      next t = prepend (record { after = σ′; outcome = o }) (full F S (room - length (entry o)) σ′ t)
 
       go : (test : Bool) → suc j ≤ length (cond test (stop σ (Refused LogFull)) (next t) .events)
           → Answered room σ t (suc j) (λ t. cond test (stop σ (Refused LogFull)) (next t))
       go true h = absurd (omega arith)
       go false h =
           let (k, fits, e) = again (room - length (entry o)) σ′ (omega arith) in
-          (k, fits, ap (first (record { after = σ′; outcome = o })) e)
+          (k, fits, ap (prepend (record { after = σ′; outcome = o })) e)
 
   reached-decoded : (room : ℕ) (σ : State) (k : ℕ) (s : List ℕ) (j : ℕ)
       → ((room : ℕ) (σ : State) (t : List ℕ) → j ≤ length (full F S room σ t .events) → Reached room σ t j)
@@ -66,13 +66,13 @@ module _ (F : Form) (S : List ℕ) where
       → Reached room σ (k ∷ s) (suc j)
   reached-decoded room σ k s j again over d h = absurd (decode-some k s d)
   reached-decoded room σ k s j again unknown d h =
-      absurd (omega (arith, ap (λ (w : Went). length (w .events)) (full-unknown F S room σ (k ∷ s) d)))
+      absurd (omega (arith, ap (λ (w : Execution). length (w .events)) (full-unknown F S room σ (k ∷ s) d)))
   reached-decoded room σ k s j again (command x t) d h =
       let front : Front (k ∷ s) x t = decode-front (k ∷ s) x t d in
       let whole = full-command F S room σ (k ∷ s) x t d in
       let (i, fits, e) =
       reached-answered room σ t j (λ room σ. again room σ t) (carry F S σ x)
-      (omega (arith, ap (λ (w : Went). length (w .events)) whole)) in (
+      (omega (arith, ap (λ (w : Execution). length (w .events)) whole)) in (
         length (front .bytes) + i,
         omega (arith, fits, ap length (front .split), length-append (front .bytes) t),
         ap (full F S room σ)
@@ -85,7 +85,7 @@ module _ (F : Form) (S : List ℕ) where
   reached : (j room : ℕ) (σ : State) (s : List ℕ) → j ≤ length (full F S room σ s .events) → Reached room σ s j
   reached zero room σ s h = (0, omega arith, full-over F S room σ)
   reached (suc j) room σ [] h =
-      absurd (omega (arith, ap (λ (w : Went). length (w .events)) (full-over F S room σ)))
+      absurd (omega (arith, ap (λ (w : Execution). length (w .events)) (full-over F S room σ)))
   reached (suc j) room σ (k ∷ s) h =
       reached-decoded room σ k s j (λ room σ t h. reached j room σ t h) (decode (k ∷ s)) refl h
 

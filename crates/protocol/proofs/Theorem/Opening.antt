@@ -2,29 +2,28 @@
 use mathlib.Core.Path.{_≡_, refl, sym, ap, _∙_}
 use mathlib.Core.Logic.{inl, inr}
 use mathlib.Core.List.{List, []}
-use mathlib.Core.Bool.{true, not, _&&_}
+use mathlib.Core.Bool.{true}
 use Prim.Native.Nat.{ℕ, _<_}
 use native.Mathlib.Omega.{arith}
-use lib.Dec.{eqb, leb}
 use lib.ListN.{length, getD, length-replicate}
-use borrow.Author.Tests.{eqb-true, leb-false, not-false}
 use Rattle.radix.specs.declared.Count.{Count}
 use Rattle.radix.specs.Digits.{product}
 use Rattle.protocol.specs.Form.{Form, goodForm, countSteps}
 use Rattle.protocol.specs.Layout.{countOrder, countDigits}
 use Rattle.protocol.specs.State.{idle, opened}
-use Rattle.protocol.specs.Memory.{Memory, stored, goodLengths}
+use Rattle.protocol.specs.Memory.{Memory, stored}
 use Rattle.protocol.specs.Run.{openPage, Ran}
 use Rattle.protocol.specs.History.{Read, fresh}
-use Rattle.protocol.specs.Demand.{bothIdle}
+use Rattle.protocol.specs.Demand.{rests, idles}
 use Rattle.protocol.specs.declared.Ending.the-variants.{Finished}
-use Rattle.protocol.proofs.Lists.Cases.{by-cond, both}
 use Rattle.protocol.proofs.Lists.Places.{getD-all}
 use Rattle.protocol.proofs.Positions.Counts.{CountAt, countAt, countDigitLow}
 use Rattle.protocol.proofs.Positions.Steps.{digit-high}
 use Rattle.protocol.proofs.Positions.Opened.{P, opened-first, opened-second}
 use Rattle.protocol.proofs.Items.Seen.{Holds}
 use Rattle.protocol.proofs.InRange.{in-range}
+use Rattle.protocol.proofs.Pins.Ranges.{good-form}
+use Rattle.protocol.proofs.Pins.Starts.{Opening, bad-form, wrong-length, too-large, all-good, opening}
 use Rattle.protocol.proofs.Allowed.Opened.{opened-kept}
 use Rattle.protocol.proofs.Records.Start.{record-start}
 use Rattle.protocol.proofs.Commands.Invariant.{Proper, Inv}
@@ -40,25 +39,14 @@ pub record Opens (F : Form) (c : Count) (r₀ : List ℕ) (L : Memory) : Type 0 
 pub opens :
     (F : Form) (L : Memory) (c : Count) (r₀ : List ℕ) → openPage F L c r₀ .ending ≡ Finished →
     Opens F c r₀ (openPage F L c r₀ .memory)
-unfolding openPage
-opens F L c r₀ =
-    let P : Ran → Type 0 = λ o. o .ending ≡ Finished → Opens F c r₀ (o .memory) in
-    by-cond P (not (goodForm F))
-    (λ a e. absurd (let z : _≡_ {A = ℕ} 0 1 = cc in omega arith))
-    (λ a.
-    by-cond P (not (goodLengths F L && eqb (length r₀) (F .n)))
-    (λ b e. absurd (let z : _≡_ {A = ℕ} 0 1 = cc in omega arith))
-    (λ b.
-    by-cond P (leb (product (F .bases)) (c .0))
-    (λ d e. absurd (let z : _≡_ {A = ℕ} 0 1 = cc in omega arith))
-    (λ d e.
-    let lengths = both (goodLengths F L) (eqb (length r₀) (F .n)) (not-false _ b) in
-    record {
-      good = not-false (goodForm F) a;
-      size = eqb-true (length r₀) (F .n) (lengths .1);
-      low = leb-false (product (F .bases)) (c .0) d;
-      memory = refl;
-    })))
+opens F L c r₀ = go (opening F L c r₀)
+  where
+    go : {o : Ran} → Opening F L c r₀ o → o .ending ≡ Finished → Opens F c r₀ (o .memory)
+    go (bad-form ranges) e = absurd (let z : _≡_ {A = ℕ} 0 1 = cc in omega arith)
+    go (wrong-length ranges lengths) e = absurd (let z : _≡_ {A = ℕ} 0 1 = cc in omega arith)
+    go (too-large ranges lengths size high) e = absurd (let z : _≡_ {A = ℕ} 0 1 = cc in omega arith)
+    go (all-good ranges lengths size low) e =
+        record { good = good-form F .1 ranges; size = size; low = low; memory = refl }
 
 pub proper : (F : Form) (r₀ : List ℕ) → goodForm F ≡ true → length r₀ ≡ F .n → Proper F r₀
 proper F r₀ good size =
@@ -71,7 +59,7 @@ proper F r₀ good size =
       room = range .some-version;
     }
 
-module _ (F : Form) (c : Count) (r₀ S : List ℕ) (good : goodForm F ≡ true) (size₀ : length r₀ ≡ F .n)
+module _ (F : Form) (c : Count) (r₀ : List ℕ) (good : goodForm F ≡ true) (size₀ : length r₀ ≡ F .n)
     (low : c .0 < product (F .bases)) where
   abbrev page : List ℕ
   page = P F (c .0) r₀
@@ -86,18 +74,18 @@ module _ (F : Form) (c : Count) (r₀ S : List ℕ) (good : goodForm F ≡ true)
           opened-first F (c .0) r₀ (getD (countOrder F) k 0) (omega arith)
           ∙ sym (digit-high F (c .0) k (getD (countOrder F) k 0) (a .0) (a .1))
 
-  opened-inv : Inv F c r₀ S [] (opened F c r₀) (fresh F)
+  opened-inv : Inv F c r₀ [] (opened F c r₀) (fresh F)
   unfolding opened fresh
   opened-inv =
-      let sized = opened-kept F S c r₀ good size₀ low .0 in
+      let sized = opened-kept F [] c r₀ good size₀ low .0 in
       record {
         time = refl;
         pageSize = sized .page;
         readingsSize = sized .readings;
         buffersSize = sized .buffers;
-        readsSize = length-replicate (F .readers) Read.none;
-        writer = tt;
-        readers = λ r. rw (getD-all (F .readers) r idle, getD-all (F .readers) r Read.none) bothIdle;
+        readsSize = length-replicate (F .readers) Read.noRead;
+        writer = rests;
+        readers = λ r. rw (getD-all (F .readers) r idle, getD-all (F .readers) r Read.noRead) idles;
         explained = λ t a b. absurd (omega arith);
         counts = record {
           fit = tt;
@@ -110,7 +98,15 @@ module _ (F : Form) (c : Count) (r₀ S : List ℕ) (good : goodForm F ≡ true)
         records = record-start F c r₀ size₀;
       }
 
-  pub opened-held : (L : Memory) → L ≡ stored F (opened F c r₀) → Held F c r₀ S [] L (fresh F)
+  pub opened-held : (L : Memory) → L ≡ stored F (opened F c r₀) → Held F c r₀ [] L (fresh F)
+  unfolding fresh
   opened-held L e =
-      let k = opened-kept F S c r₀ good size₀ low in
-      record { state = opened F c r₀; memory = e; sized = k .0; fine = k .1; inv = opened-inv }
+      let k = opened-kept F [] c r₀ good size₀ low in
+      record {
+        state = opened F c r₀;
+        memory = e;
+        sized = k .0;
+        records = [];
+        fine = k .1;
+        stands = record { inv = opened-inv; orderly = refl; last = refl };
+      }

@@ -7,7 +7,7 @@ use lib.ListN.{length, drop, length-drop}
 use Rattle.protocol.specs.Form.{Form}
 use Rattle.protocol.specs.State.{State}
 use Rattle.protocol.specs.Outcome.{endingNumber, entry}
-use Rattle.protocol.specs.Run.{Went}
+use Rattle.protocol.specs.Run.{Execution}
 use Rattle.protocol.proofs.Runs.Fuel.{full, full-over}
 use Rattle.report.specs.Turn.{nextWidth}
 use Rattle.report.proofs.Turns.One.{One, stops, goes, one, entry-short}
@@ -18,7 +18,7 @@ module _ (F : Form) (S : List ℕ) where
       (room : ℕ) (σ : State) (s : List ℕ) → length s ≤ k → 10 * length s ≤ room
       → endingNumber (full F S room σ s .ending) < 12
 
-  abbrev number : Went → ℕ
+  abbrev number : Execution → ℕ
   number w = endingNumber (w .ending)
 
   by-one : (k : ℕ) → Says k → (room : ℕ) (σ : State) (s : List ℕ) → 0 < length s → length s ≤ suc k

@@ -14,7 +14,7 @@ use Rattle.protocol.specs.State.{State}
 use Rattle.protocol.specs.Outcome.{entry}
 use Rattle.protocol.specs.Step.{done}
 use Rattle.protocol.specs.Load.{load}
-use Rattle.protocol.specs.Run.{Went, Event, first, stop}
+use Rattle.protocol.specs.Run.{Execution, Event, prepend, stop}
 use Rattle.protocol.specs.declared.Outcome.{Outcome}
 use Rattle.protocol.specs.declared.Refusal.{Refusal}
 use Rattle.protocol.specs.declared.Ending.{Ending}
@@ -51,7 +51,7 @@ module _
     S = x .records
 
     -- the text of what a run does, after so many commands
-    abbrev pub textOf : ℕ → Went → List ℕ
+    abbrev pub textOf : ℕ → Execution → List ℕ
     textOf d w = concat (map (lineAfter (F .n)) (w .events)) ++ endLine (d + length (w .events)) (w .ending)
 
     abbrev progress : (at d : ℕ) → Progress
@@ -82,7 +82,7 @@ module _
           call-refused F S (F .readers) now t ready (same t) (holding-lists F S good h lists σ fine) why (rw loaded e)
 
       done-here : (t : List ℕ) (σ′ : State) (o : Outcome)
-          → full F S 10 σ (take (nextWidth t) t) ≡ first (record { after = σ′; outcome = o }) (stop σ′ Finished)
+          → full F S 10 σ (take (nextWidth t) t) ≡ prepend (record { after = σ′; outcome = o }) (stop σ′ Finished)
           → Fine F S σ′ → runOne x now t ≡ ranDone F h σ′ o
       done-here t σ′ o e fine′ =
           call-done F S (F .readers) now t ready (same t) σ′ o (rw loaded e)
@@ -120,7 +120,7 @@ module _
     unfolding turns
     step k p z t e = ap (worth k) e
 
-    finish : (k d : ℕ) (e : Ending) (p : Progress) (z : Here) (w : Went) → p .done ≡ d → w .events ≡ []
+    finish : (k d : ℕ) (e : Ending) (p : Progress) (z : Here) (w : Execution) → p .done ≡ d → w .events ≡ []
         → w .ending ≡ e → worth k (ends p z e) ≡ textOf d w
     finish k d e p z w a b c =
         append-nil (endLine (p .done) e)
@@ -142,16 +142,16 @@ module _
             (inside s (progress at d) (holding F σ h) x low few
             ∙ carry-refused (progress at d) (holding F σ h) why (refused-here σ fine rest why e))
             ∙ finish k d (Refused why) (progress at d) (holding F σ h) (full F S room σ rest) refl
-            (ap (λ (w : Went). w .events) (all room)) (ap (λ (w : Went). w .ending) (all room))
+            (ap (λ (w : Execution). w .events) (all room)) (ap (λ (w : Execution). w .ending) (all room))
         by-one (goes y σ′ o c e all fits) =
             let fine′ : Fine F S σ′ = rw c at (kept F S (in-range F good) σ fine y) in
             let w : ℕ = nextWidth rest in
             let long : length rest ≡ length s - at = length-drop at s in
             let ev : Event = record { after = σ′; outcome = o } in
-            let after : Went = full F S (room - length (entry o)) σ′ (drop (at + w) s) in
-            let all-after : full F S room σ rest ≡ first ev after =
+            let after : Execution = full F S (room - length (entry o)) σ′ (drop (at + w) s) in
+            let all-after : full F S room σ rest ≡ prepend ev after =
             all room (omega arith)
-            ∙ ap (λ (l : List ℕ). first ev (full F S (room - length (entry o)) σ′ l)) (drop-drop w at s)
+            ∙ ap (λ (l : List ℕ). prepend ev (full F S (room - length (entry o)) σ′ l)) (drop-drop w at s)
             in
             let then : turns k s (header x) (progress (at + w) (d + 1)) (holding F σ′ h) ≡ textOf (d + 1) after =
             again (at + w) (d + 1) (room - length (entry o)) σ′ fine′ (omega (arith, fits)) (omega (arith, fits))
@@ -184,7 +184,7 @@ module _
             step k (progress at d) (holding F σ h) (ends (progress at d) (holding F σ h) Finished)
             (at-end s (progress at d) (holding F σ h) x last b)
             ∙ finish k d Finished (progress at d) (holding F σ h) (full F S room σ (drop at s)) refl
-            (ap (λ (w : Went). w .events) none) (ap (λ (w : Went). w .ending) none)
+            (ap (λ (w : Execution). w .events) none) (ap (λ (w : Execution). w .ending) none)
         go again false q =
             let low : at < length s = omega (arith, eqb-false at (length s) q) in
             by-one k at d room σ fine low b c e again

@@ -13,7 +13,7 @@ use Rattle.protocol.specs.Form.{Form, countSteps, recordSteps}
 use Rattle.protocol.specs.State.{State, opened}
 use Rattle.protocol.specs.Outcome.{endingNumber}
 use Rattle.protocol.specs.Memory.{stored, goodLengths}
-use Rattle.protocol.specs.Run.{Ran, went, run, openPage}
+use Rattle.protocol.specs.Run.{Ran, inMemory, run, openPage}
 use Rattle.protocol.specs.declared.Refusal.{Refusal}
 use Rattle.protocol.specs.declared.Ending.the-variants.{Refused}
 use Rattle.protocol.proofs.InRange.{in-range}
@@ -58,7 +58,7 @@ module _ (more : Bool) (s : List ℕ) (h : Here) (a : Accepted more s (headerIn 
   fine = fine-opened F S (headerIn s .count) (headerIn s .first) (in-range F (a .good)) (a .first-long)
 
   -- one run of all commands
-  ran : run F S (stored F σ) (record { given = given; log = replicate room 0 }) ≡ went F (full F S room σ given)
+  ran : run F S (stored F σ) (record { given = given; log = replicate room 0 }) ≡ inMemory F (full F S room σ given)
   ran =
       run-started F S (stored F σ) (record { given = given; log = replicate room 0 }) (record {
         form = a .good;
@@ -67,11 +67,11 @@ module _ (more : Bool) (s : List ℕ) (h : Here) (a : Accepted more s (headerIn 
         state = stored-valid F S σ (a .good) (fine .sized) (holds F S σ (fine .good));
       })
       ∙ (λ i.
-      went F
+      inMemory F
       (full F S (length-replicate {A = ℕ} room 0 i)
       (load-stored F S σ (a .good) (fine .sized) (holds F S σ (fine .good)) i) given))
 
-  pub printed-is : printedOf s (header (headerIn s)) ≡ listing (F .n) (went F (full F S room σ given))
+  pub printed-is : printedOf s (header (headerIn s)) ≡ listing (F .n) (inMemory F (full F S room σ given))
   unfolding printedOf
   printed-is = ap (listing (F .n)) ran
 

@@ -11,7 +11,7 @@ use Rattle.protocol.specs.State.{State}
 use Rattle.protocol.specs.Outcome.{refusalNumber, entry}
 use Rattle.protocol.specs.Command.{Decoded, over, unknown, command, decode}
 use Rattle.protocol.specs.Step.{Answer, refused, done, carry}
-use Rattle.protocol.specs.Run.{first, stop, answered}
+use Rattle.protocol.specs.Run.{prepend, stop, answered}
 use Rattle.protocol.specs.declared.Command.{Command}
 use Rattle.protocol.specs.declared.Outcome.{Outcome}
 use Rattle.protocol.specs.declared.Outcome.the-variants.{Nothing, Shown, Accepted, GaveUp}
@@ -37,9 +37,9 @@ module _ (F : Form) (S : List ℕ) (σ : State) where
     stops : (why : Refusal) → refusalNumber why < 12 → full F S 10 σ (take (nextWidth s) s) ≡ stop σ (Refused why)
         → ((room : ℕ) → full F S room σ s ≡ stop σ (Refused why)) → One s
     goes : (x : Command) (σ′ : State) (o : Outcome) → carry F S σ x ≡ done σ′ o
-        → full F S 10 σ (take (nextWidth s) s) ≡ first (record { after = σ′; outcome = o }) (stop σ′ Finished)
+        → full F S 10 σ (take (nextWidth s) s) ≡ prepend (record { after = σ′; outcome = o }) (stop σ′ Finished)
         → ((room : ℕ) → 10 ≤ room → full F S room σ s
-        ≡ first (record { after = σ′; outcome = o })
+        ≡ prepend (record { after = σ′; outcome = o })
         (full F S (room - length (entry o)) σ′ (drop (nextWidth s) s)))
         → (1 ≤ nextWidth s) × (nextWidth s ≤ length s)
         → One s
@@ -47,7 +47,7 @@ module _ (F : Form) (S : List ℕ) (σ : State) where
   -- with room enough
   roomy : (room : ℕ) (t : List ℕ) (σ′ : State) (o : Outcome) → 10 ≤ room →
       answered (full F S) room σ t (done σ′ o)
-      ≡ first (record { after = σ′; outcome = o }) (full F S (room - length (entry o)) σ′ t)
+      ≡ prepend (record { after = σ′; outcome = o }) (full F S (room - length (entry o)) σ′ t)
   unfolding answered
   roomy room t σ′ o h = rw (le-ltb room (length (entry o)) (omega (arith, entry-short o)))
 
@@ -96,12 +96,12 @@ module _ (F : Form) (S : List ℕ) (σ : State) where
         (full-command F S 10 σ _ x [] alone
         ∙ ap (answered (full F S) 10 σ []) c
         ∙ roomy 10 [] σ′ o (omega arith)
-        ∙ ap (first (record { after = σ′; outcome = o })) (full-over F S (10 - length (entry o)) σ′))
+        ∙ ap (prepend (record { after = σ′; outcome = o })) (full-over F S (10 - length (entry o)) σ′))
         (λ room h.
         full-command F S room σ s x t e
         ∙ ap (answered (full F S) room σ t) c
         ∙ roomy room t σ′ o h
-        ∙ ap (λ l. first (record { after = σ′; outcome = o }) (full F S (room - length (entry o)) σ′ l)) (sym left))
+        ∙ ap (λ l. prepend (record { after = σ′; outcome = o }) (full F S (room - length (entry o)) σ′ l)) (sym left))
         fits
 
   by-decoded : (s : List ℕ) → 0 < length s → (d : Decoded) → decode s ≡ d → One s

@@ -10,7 +10,7 @@ use Rattle.protocol.specs.Outcome.{entry}
 use Rattle.protocol.specs.Step.{done, carry}
 use Rattle.protocol.specs.Memory.{storedWriting}
 use Rattle.protocol.specs.Load.{load}
-use Rattle.protocol.specs.Run.{Went, first, stop, logAfter}
+use Rattle.protocol.specs.Run.{Execution, prepend, stop, logAfter}
 use Rattle.protocol.specs.declared.Command.{Command}
 use Rattle.protocol.specs.declared.Outcome.{Outcome}
 use Rattle.protocol.specs.declared.Refusal.{Refusal}
@@ -47,7 +47,7 @@ module _ (F : Form) (S : List ℕ) (k : ℕ) (h : Here) (s : List ℕ) where
   called = runHere F S k h (take (nextWidth s) s) (replicate 10 0)
 
   -- what the commands leave
-  abbrev leaves : Went → RanHere
+  abbrev leaves : Execution → RanHere
   leaves x =
       ranHere (ranOf (x .events) (x .ending) (storedWriting (x .state .writing))) (holding F (x .state) h)
       (logAfter (x .events) (replicate 10 0))
@@ -60,7 +60,7 @@ module _ (F : Form) (S : List ℕ) (k : ℕ) (h : Here) (s : List ℕ) where
       (ready : Ready F S h)
       (same : called ≡ wentHere F S h (take (nextWidth s) s) (replicate 10 0))
     where
-      leave : (x : Went) → full F S 10 σ₀ (take (nextWidth s) s) ≡ x → called ≡ leaves x
+      leave : (x : Execution) → full F S 10 σ₀ (take (nextWidth s) s) ≡ x → called ≡ leaves x
       leave x e = same ∙ went (take (nextWidth s) s) ∙ ap leaves e
 
       pub call-refused : Lists16 (h .store) → (why : Refusal)
@@ -70,10 +70,10 @@ module _ (F : Form) (S : List ℕ) (k : ℕ) (h : Here) (s : List ℕ) where
           ∙ ap (λ (x : Here). ranRefused why x) (holding-now F S h ready lists)
 
       pub call-done : (σ : State) (o : Outcome)
-          → full F S 10 σ₀ (take (nextWidth s) s) ≡ first (record { after = σ; outcome = o }) (stop σ Finished)
+          → full F S 10 σ₀ (take (nextWidth s) s) ≡ prepend (record { after = σ; outcome = o }) (stop σ Finished)
           → called ≡ ranDone F h σ o
       call-done σ o e =
-          leave (first (record { after = σ; outcome = o }) (stop σ Finished)) e
+          leave (prepend (record { after = σ; outcome = o }) (stop σ Finished)) e
           ∙ ap
           (λ (l : List ℕ).
           ranHere

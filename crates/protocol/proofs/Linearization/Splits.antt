@@ -4,8 +4,8 @@ use mathlib.Core.Logic.{_⊎_, inl, inr, _≢_}
 use mathlib.Core.List.{List, [], _∷_, _++_}
 use Prim.Native.Nat.{ℕ}
 use Rattle.protocol.specs.Lists.{All}
-use Rattle.protocol.specs.Demand.{Act, took, Moment, Has}
-use Rattle.protocol.proofs.Orders.Marks.{lastPlace, Once, Mark, fixed, pending, keep, tookAt, At, here, there}
+use Rattle.protocol.specs.Demand.{Act, took, Linearized, Has}
+use Rattle.protocol.proofs.Linearization.Marks.{lastPlace, Once, Mark, fixed, pending, keep, tookAt, At, here, there}
 
 pub at-has : (u k v : ℕ) (G : List Mark) → At (fixed (tookAt u k)) v G → Has (keep G) (took u)
 at-has u k v G (here e) = inl refl
@@ -14,7 +14,7 @@ at-has u k v G (there {f = pending r t} {G = H} n x) = at-has u k v H x
 
 module _ (u v : ℕ) where
   -- the read that command u ended stands in the order, after place v
-  abbrev pub In : List Moment → Type 0
+  abbrev pub In : List Linearized → Type 0
   In [] = ⊥
   In (a ∷ l) = ((a .act ≡ took u) × (lastPlace l .0 ≡ v)) ⊎ In l
 
@@ -23,18 +23,18 @@ module _ (u v : ℕ) where
   at-in k G (there {f = fixed a} {G = H} n x) = inr (at-in k H x)
   at-in k G (there {f = pending r t} {G = H} n x) = at-in k H x
 
-  not-in : (l : List Moment) → All (λ b. took u ≢ b .act) l → In l → ⊥
+  not-in : (l : List Linearized) → All (λ b. took u ≢ b .act) l → In l → ⊥
   not-in (a ∷ l) h (inl x) = h .0 (sym (x .0))
   not-in (a ∷ l) h (inr x) = not-in l (h .1) x
 
   not-there :
-      (x : Act) (later : List Moment) (k : ℕ) (l : List Moment) → All (λ b. x ≢ b .act) (later ++ (tookAt u k ∷ l)) →
+      (x : Act) (later : List Linearized) (k : ℕ) (l : List Linearized) → All (λ b. x ≢ b .act) (later ++ (tookAt u k ∷ l)) →
       x ≢ took u
   not-there x [] k l h = h .0
   not-there x (a ∷ later) k l h = not-there x later k l (h .1)
 
   pub in-split :
-      (later : List Moment) (k : ℕ) (earlier : List Moment) → Once (later ++ (tookAt u k ∷ earlier)) →
+      (later : List Linearized) (k : ℕ) (earlier : List Linearized) → Once (later ++ (tookAt u k ∷ earlier)) →
       In (later ++ (tookAt u k ∷ earlier)) → lastPlace earlier .0 ≡ v
   in-split [] k earlier o (inl x) = x .1
   in-split [] k earlier o (inr x) = absurd (not-in earlier (o .0) x)

@@ -1,4 +1,4 @@
--- The order in the making, latest first: writes at their moments, attempts at theirs (pending until one is accepted).
+-- The order in the making, latest first: writes at their linearization points, attempts at theirs (pending until one is accepted).
 use mathlib.Core.Path.{_≡_, refl, ap, _∙_}
 use mathlib.Core.Logic.{_≢_}
 use mathlib.Core.List.{List, [], _∷_, map}
@@ -8,42 +8,42 @@ use lib.Dec.{eqb}
 use borrow.Author.Tests.{eqb-true, eq-eqb, ne-eqb}
 use Rattle.radix.specs.declared.Place.{Place}
 use Rattle.protocol.specs.Lists.{Pairwise}
-use Rattle.protocol.specs.Demand.{Act, wrote, took, Moment, lastWrite}
+use Rattle.protocol.specs.Demand.{Act, wrote, took, Linearized, lastWrite}
 use Rattle.protocol.proofs.Lists.Cases.{by-cond, both}
 
 -- the order's last place, and that no act stands in it twice
-abbrev pub lastPlace : List Moment → Place
-lastPlace l = lastWrite (map (λ (a : Moment). a .act) l)
+abbrev pub lastPlace : List Linearized → Place
+lastPlace l = lastWrite (map (λ (a : Linearized). a .act) l)
 
-abbrev pub Once : List Moment → Type 0
+abbrev pub Once : List Linearized → Type 0
 Once l = Pairwise (λ a b. a .act ≢ b .act) l
 
--- an act at its moment, or the moment of reader r's attempt
+-- an act at its linearization point, or the point of reader r's attempt
 pub data Mark : Type 0 where
-  fixed : Moment → Mark
+  fixed : Linearized → Mark
   pending : (r t : ℕ) → Mark
 
 abbrev pub timeOf : Mark → ℕ
-timeOf (fixed a) = a .at
+timeOf (fixed a) = a .point
 timeOf (pending r t) = t
 
-abbrev pub keep : List Mark → List Moment
+abbrev pub keep : List Mark → List Linearized
 keep [] = []
 keep (fixed a ∷ G) = a ∷ keep G
 keep (pending r t ∷ G) = keep G
 
-abbrev pub wroteAt : Place → ℕ → Moment
-wroteAt i t = record { act = wrote i; at = t }
+abbrev pub wroteAt : Place → ℕ → Linearized
+wroteAt i t = record { act = wrote i; point = t }
 
-abbrev pub tookAt : ℕ → ℕ → Moment
-tookAt u t = record { act = took u; at = t }
+abbrev pub tookAt : ℕ → ℕ → Linearized
+tookAt u t = record { act = took u; point = t }
 
--- e stands in the list, nothing later has its moment, and v is the last place before it
+-- e stands in the list, nothing later has its point, and v is the last place before it
 pub data At (e : Mark) (v : ℕ) : List Mark → Type 0 where
   here : {G : List Mark} → lastPlace (keep G) .0 ≡ v → At e v (e ∷ G)
   there : {f : Mark} {G : List Mark} → timeOf f ≢ timeOf e → At e v G → At e v (f ∷ G)
 
--- the attempt of reader r with moment t is accepted, with command u
+-- the attempt of reader r with point t is accepted, with command u
 abbrev pub hit : ℕ → ℕ → ℕ → ℕ → Bool
 hit r t i k = eqb i r && eqb k t
 
@@ -61,7 +61,7 @@ last-more (wrote i) l l′ e = refl
 last-more (took u) l l′ e = e
 
 abbrev acts : List Mark → List Act
-acts G = map (λ (a : Moment). a .act) (keep G)
+acts G = map (λ (a : Linearized). a .act) (keep G)
 
 module _ (r t u : ℕ) where
   pub mark-last : (G : List Mark) → lastPlace (keep (mark r t u G)) ≡ lastPlace (keep G)
@@ -84,7 +84,7 @@ module _ (r t u : ℕ) where
       (λ h. there (λ e. n (hit-true r t j l h .1 ∙ e)) x)
       (λ h. there n (mark-other i k v H d x))
 
-  pub mark-act : (a : Moment) (v : ℕ) (G : List Mark) → At (fixed a) v G → At (fixed a) v (mark r t u G)
+  pub mark-act : (a : Linearized) (v : ℕ) (G : List Mark) → At (fixed a) v G → At (fixed a) v (mark r t u G)
   unfolding mark
   mark-act a v G (here {G = H} e) = here (last-number v H e)
   mark-act a v G (there {f = fixed b} {G = H} n x) = there n (mark-act a v H x)

@@ -11,11 +11,11 @@ use Rattle.radix.specs.declared.Place.{Place}
 use Rattle.protocol.specs.Lists.{All}
 use Rattle.protocol.specs.Form.{Form}
 use Rattle.protocol.specs.History.{Write, Placed, Attempt, begun}
-use Rattle.protocol.specs.Demand.{lastOf, Act, wrote, took, Moment, Has, Within, Real}
+use Rattle.protocol.specs.Demand.{lastOf, Act, wrote, took, Linearized, Has, Within, Real}
 use Rattle.protocol.proofs.Lists.Cases.{all-map}
 use Rattle.protocol.proofs.Items.Times.{Desc, desc-now, first-le, last-le, first-more}
 use Rattle.protocol.proofs.Items.Writes.{on}
-use Rattle.protocol.proofs.Orders.Marks.{
+use Rattle.protocol.proofs.Linearization.Marks.{
   lastPlace,
   Once,
   Mark,
@@ -27,7 +27,7 @@ use Rattle.protocol.proofs.Orders.Marks.{
   mark,
   mark-last,
 }
-use Rattle.protocol.proofs.Orders.Facts.{mark-all, mark-kept, mark-any, Older, mark-once, Sorted, mark-sorted}
+use Rattle.protocol.proofs.Linearization.Facts.{mark-all, mark-kept, mark-any, Older, mark-once, Sorted, mark-sorted}
 use Rattle.protocol.proofs.Records.Numbered.{number}
 
 -- no mark names a command to come
@@ -36,7 +36,7 @@ OverBy now (wrote i) = Unit {0}
 OverBy now (took u) = u ≤ now
 
 abbrev pub Timed : ℕ → Mark → Type 0
-Timed now (fixed a) = OverBy now (a .act) × (a .at ≤ now)
+Timed now (fixed a) = OverBy now (a .act) × (a .point ≤ now)
 Timed now (pending r t) = t ≤ now
 
 -- no write is above k
@@ -65,8 +65,8 @@ timed-older now [] h = tt
 timed-older now (fixed a ∷ G) h = (over-older now (a .act) (h .0 .0), timed-older now G (h .1))
 timed-older now (pending i k ∷ G) h = timed-older now G (h .1)
 
-abbrev pub RealAt : List (Write Placed) → List Attempt → Moment → Type 0
-RealAt ps ys a = Real ps ys (a .at) (a .act)
+abbrev pub RealAt : List (Write Placed) → List Attempt → Linearized → Type 0
+RealAt ps ys a = Real ps ys (a .point) (a .act)
 
 real-attempt :
     (ps : List (Write Placed)) (ys : List Attempt) (y : Attempt) (t : ℕ) (x : Act) → Real ps ys t x →
@@ -141,7 +141,7 @@ module _ (F : Form) where
       upto = o .upto;
       timed = all-map G (timed-later now) (o .timed);
       sorted = o .sorted;
-      real = all-map (keep G) (λ a. real-attempt ps ys y (a .at) (a .act)) (o .real);
+      real = all-map (keep G) (λ a. real-attempt ps ys y (a .point) (a .act)) (o .real);
       writes = o .writes;
     }
 
@@ -158,7 +158,7 @@ module _ (F : Form) where
       sorted = mark-sorted r t (suc now) G (o .sorted);
       real =
           mark-kept r t (suc now) (RealAt ps (y ∷ ys)) G (inl (acc, last, within))
-          (all-map (keep G) (λ a. real-attempt ps ys y (a .at) (a .act)) (o .real));
+          (all-map (keep G) (λ a. real-attempt ps ys y (a .point) (a .act)) (o .real));
       writes =
           all-map ps
           (λ p f h. mark-any r t (suc now) (λ b. b .act ≡ wrote (p .what .place)) G (f h))
@@ -172,7 +172,7 @@ module _ (F : Form) where
       upto = o .upto;
       timed = all-map G (timed-later now) (o .timed);
       sorted = o .sorted;
-      real = all-map (keep G) (λ a. real-write ps ys (begun x) (a .at) (a .act)) (o .real);
+      real = all-map (keep G) (λ a. real-write ps ys (begun x) (a .point) (a .act)) (o .real);
       writes = (λ h. absurd (omega arith), o .writes);
     }
 
@@ -185,7 +185,7 @@ module _ (F : Form) where
       upto = o .upto;
       timed = all-map G (timed-later now) (o .timed);
       sorted = o .sorted;
-      real = all-map (keep G) (λ a. real-step now p ps ys d (a .at) (a .act)) (o .real);
+      real = all-map (keep G) (λ a. real-step now p ps ys d (a .point) (a .act)) (o .real);
       writes = (λ h. o .writes .0 (omega arith), o .writes .1);
     }
 
@@ -201,7 +201,7 @@ module _ (F : Form) where
       sorted = (all-map G (timed-le now) (o .timed), o .sorted);
       real = (
         inl (refl, omega arith, (first-le (desc-now d), le-refl _)),
-        all-map (keep G) (λ a. real-step now p ps ys d (a .at) (a .act)) (o .real),
+        all-map (keep G) (λ a. real-step now p ps ys d (a .point) (a .act)) (o .real),
       );
       writes = (λ g. inl refl, all-map ps (λ q f g. inr (f g)) (o .writes .1));
     }
