@@ -1,5 +1,6 @@
 // The page and the printed run at their edges, one line for each call. The expected lines were worked out apart from
 // this code, from document 01.
+mod altered;
 mod cuts;
 mod damage;
 mod input;
@@ -10,6 +11,7 @@ mod ranges;
 mod room;
 mod runs;
 mod show;
+mod strange;
 
 fn main() {
     ranges::places();
@@ -26,6 +28,8 @@ fn main() {
     room::accepted();
     room::unequal();
     overtaken::logged();
+    strange::page_and_writer();
+    strange::readers();
     cuts::short();
     cuts::headers();
     cuts::longest();
