@@ -1,4 +1,4 @@
-/* A hall's page from C: one count and one record are written, read back by two readers, and printed.
+/* A hall's page from C: one count and two records are written, read back by two readers, and printed.
  *
  *     cc -std=c11 -O2 -Iinclude examples/hall.c target/staticlib/liblagumtay.a -o target/hall && target/hall
  */
@@ -12,7 +12,7 @@ enum { M = 2, Q = 1, N = 8, READERS = 2 };
 
 static const lagumtay_format format = {.q = Q, .base = 256, .n = N, .readers = READERS};
 static const uint16_t bases[M] = {24, 60}; /* hours and minutes */
-static const uint8_t records[] = "batch 17batch 18";
+static const char *records = "batch 17batch 18";
 
 static uint8_t page[2 * M + 2 * Q + N];
 static lagumtay_writer writer;
@@ -47,7 +47,8 @@ static uint8_t run(const uint8_t *commands, size_t length) {
     uint8_t log[64];
     lagumtay_answer answer;
     uint8_t refusal = lagumtay_run(&format, bases, M, page, sizeof page, &writer, readers, READERS, buffers,
-                                   sizeof buffers, records, sizeof records - 1, commands, length, log, sizeof log, &answer);
+                                   sizeof buffers, (const uint8_t *)records, strlen(records), commands, length, log,
+                                   sizeof log, &answer);
     print_log(log, answer.written);
     if (refusal != LAGUMTAY_OK)
         printf("command %zu is refused: %u\n", answer.done + 1, refusal);
@@ -84,5 +85,12 @@ int main(void) {
         record[length++] = 6;
         record[length++] = 1;
     }
+    if (run(record, length) != LAGUMTAY_OK)
+        return 1;
+
+    /* New tallies have come. They are lent while no record write is pending; record 1 of them is written and read. */
+    if (writer.kind == 2)
+        return 1;
+    records = "batch 19batch 20";
     return run(record, length) != LAGUMTAY_OK;
 }

@@ -1,42 +1,13 @@
-//! A hall's page from Rust: one count and one record are written, read back by two readers, and printed.
+//! A hall's page from Rust: one count and two records are written, read back by two readers, and printed.
 //!
 //!     cargo run --manifest-path bindings/rust/Cargo.toml --example hall
 use lagumtay::Command::*;
-use lagumtay::{commands, Count, Entry, Format, Page, Refusal, Version};
+use lagumtay::{commands, Command, Count, Entry, Format, Page, Refusal, Version};
 
-fn main() -> Result<(), Refusal> {
-    let format = Format {
-        bases: vec![24, 60],
-        q: 1,
-        base: 256,
-        n: 8,
-        readers: 2,
-    };
-    let mut page = Page::open(format, Count(11 * 60 + 57), b"opening.")?;
-
-    // Reader 0 reads the first copy, 11:57; then 12:04 is written; then the reader goes on with the second copy. It
-    // shows 12:00, which lies between both, though nobody wrote it.
-    let mut list = vec![
-        BeginCountRead(0),
-        ReaderStep(0),
-        ReaderStep(0),
-        WriteCount(Count(12 * 60 + 4)),
-    ];
-    list.extend([WriterStep; 4]);
-    list.extend([ReaderStep(0); 2]);
-    list.push(BeginCountRead(0));
-    list.extend([ReaderStep(0); 4]);
-    // Record 1 of the lent ones is written, in 2q + n steps; reader 1 reads it, with one attempt allowed.
-    list.push(WriteRecord(1));
-    list.extend([WriterStep; 10]);
-    list.push(BeginRecordRead {
-        reader: 1,
-        attempts: 1,
-    });
-    list.extend([ReaderStep(1); 10]);
-
+/// Run commands over the lent records and print what was read.
+fn run(page: &mut Page, records: &[u8], list: &[Command]) -> Result<(), Refusal> {
     let mut log = [0; 64];
-    let ran = page.run(b"batch 17batch 18", &commands(list), &mut log);
+    let ran = page.run(records, &commands(list.iter().copied()), &mut log);
     for entry in ran.entries() {
         match entry {
             Entry::Shown {
@@ -59,4 +30,42 @@ fn main() -> Result<(), Refusal> {
         }
     }
     ran.ending
+}
+
+fn main() -> Result<(), Refusal> {
+    let format = Format {
+        bases: vec![24, 60],
+        q: 1,
+        base: 256,
+        n: 8,
+        readers: 2,
+    };
+    let mut page = Page::open(format, Count(11 * 60 + 57), b"opening.")?;
+
+    // Reader 0 reads the first copy, 11:57; then 12:04 is written; then the reader goes on with the second copy. It
+    // shows 12:00, which lies between both, though nobody wrote it.
+    let mut counting = vec![
+        BeginCountRead(0),
+        ReaderStep(0),
+        ReaderStep(0),
+        WriteCount(Count(12 * 60 + 4)),
+    ];
+    counting.extend([WriterStep; 4]);
+    counting.extend([ReaderStep(0); 2]);
+    counting.push(BeginCountRead(0));
+    counting.extend([ReaderStep(0); 4]);
+    run(&mut page, b"batch 17batch 18", &counting)?;
+
+    // Record 1 of the lent ones is written, in 2q + n steps; reader 1 reads it, with one attempt allowed.
+    let mut tally = vec![WriteRecord(1)];
+    tally.extend([WriterStep; 10]);
+    tally.push(BeginRecordRead {
+        reader: 1,
+        attempts: 1,
+    });
+    tally.extend([ReaderStep(1); 10]);
+    run(&mut page, b"batch 17batch 18", &tally)?;
+
+    // New tallies have come. They are lent while no record write is pending; record 1 of them is written and read.
+    run(&mut page, b"batch 19batch 20", &tally)
 }

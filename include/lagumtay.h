@@ -121,7 +121,8 @@ uint8_t lagumtay_open(const lagumtay_format *format, const uint16_t *bases, size
 /* Carry out commands in order, up to the first that is refused. The refused one has changed nothing, the ones before it
  * have been carried out; the answer tells how many, and how many bytes of the log are written. The others keep their
  * contents. Refusals 1 to 3 are checked once at the start: then nothing at all has changed and the answer is 0 and 0.
- *   records   the lent records, n bytes each; there may be none
+ *   records   the lent records, n bytes each; there may be none. Each run may bring new ones while no record write is
+ *             pending (writer kind not 2); while one is, the record at its index stays the one that was announced
  *   commands  a byte of kind, then its body; longer numbers are high byte first
  *               01 write a count (8 bytes)            05 begin a record read (reader, attempts allowed)
  *               02 write a record (2 bytes: index)    06 reader step (reader)
@@ -146,8 +147,10 @@ uint8_t lagumtay_cancel(const lagumtay_format *format, const uint16_t *bases, si
                         const lagumtay_writer *writer, lagumtay_reader *readers, size_t readers_len,
                         uint8_t *buffers, size_t buffers_len, const uint8_t *records, size_t records_len, uint8_t who);
 
-/* WHAT IS PROMISED over all runs from an accepted opening, with the same format and records, nobody else writing what
- * is lent, and no two calls at once. All of it is one theorem: crates/protocol/specs/Demand.antt, `Claim`. */
+/* WHAT IS PROMISED over all runs from an accepted opening, with the same format, nobody else writing what is lent, no
+ * two calls at once, and records changed only as said at lagumtay_run: a record write that is begun from one record and
+ * ended from another is read as a mixture of both. All of it is one theorem: crates/protocol/specs/Demand.antt,
+ * `GeneralClaim`; over one list of records throughout, `Claim`. */
 
 /* A count shown lies between the last count fully written before the read's first step and the last one begun before
  * its last step. Demand.antt, `Span`. */
@@ -155,16 +158,23 @@ uint8_t lagumtay_cancel(const lagumtay_format *format, const uint16_t *bases, si
 /* An accepted record is whole: the bytes in the buffer, right after the step that accepted it, are those of one
  * write, and the version is the number of that write, 0 for the opening. Demand.antt, `Reports`. */
 
-/* Whole record writes and accepted record reads stand in one order, each at a moment between its first and its last
- * step, and a read has the record of the last write before it. Demand.antt, `Order`. */
+/* Whole record writes and accepted record reads are linearizable: they stand in one order, each at a point between its
+ * first and its last step, and a read has the record of the last write before it. Demand.antt, `Linearization`. */
 
 /* An attempt at a record read that no unfinished record write meets is accepted. Demand.antt, `Undisturbed`. */
 
 /* A record read takes at most the attempts that it was allowed, of 2q + n of its own steps each; giving up is told,
  * comes with the last attempt only, and leaves a buffer of zeros. Demand.antt, `Ends`, `Used`. */
 
-/* No run is refused by 1, 3 or 10, nor by 2 unless the records are no multiple of n: such an answer says that
- * something that was lent has been written by somebody else. Demand.antt, `Mild`. */
+/* Every command carried out fitted: no write begins over a pending one, no read over a running one, and nothing is
+ * stepped or cancelled that is not there. The writer is where the history of commands has it. Demand.antt, `orderly`,
+ * `Writes`. */
+
+/* A refused command changes nothing: what a run leaves is the state after its last command carried out, or what it
+ * began with. Demand.antt, `stateAfter`. */
+
+/* No run is refused by 1, 3 or 10, and by 2 exactly if the records are no multiple of n: another such answer says
+ * that something that was lent has been written by somebody else. Demand.antt, `Mild`. */
 
 #ifdef __cplusplus
 }

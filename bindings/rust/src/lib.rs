@@ -185,8 +185,9 @@ impl Page {
         ending(self.lend(|lent| lent.open(count.0, record)))
     }
 
-    /// Carry out commands up to the first that is refused. `records` are the lent records, n bytes each; what is
-    /// promised of counts and records over many runs holds if all of them get the same ones.
+    /// Carry out commands up to the first that is refused. `records` are the lent records, n bytes each. Each run may
+    /// bring new ones while no record write is pending; while one is, the record at its index must stay the one that
+    /// was announced, or a reader may accept a mixture of both.
     pub fn run<'a>(&mut self, records: &[u8], commands: &[u8], log: &'a mut [u8]) -> Ran<'a> {
         let (answer, number) = self.lend(|lent| lent.run(records, commands, log));
         Ran { done: answer.done, log: &log[..answer.written], ending: ending(number) }
