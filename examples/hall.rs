@@ -67,5 +67,6 @@ fn main() -> Result<(), Refusal> {
     run(&mut page, b"batch 17batch 18", &tally)?;
 
     // New tallies have come. They are lent while no record write is pending; record 1 of them is written and read.
+    assert_eq!(page.pending_record(), None);
     run(&mut page, b"batch 19batch 20", &tally)
 }

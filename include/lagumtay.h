@@ -122,7 +122,7 @@ uint8_t lagumtay_open(const lagumtay_format *format, const uint16_t *bases, size
  * have been carried out; the answer tells how many, and how many bytes of the log are written. The others keep their
  * contents. Refusals 1 to 3 are checked once at the start: then nothing at all has changed and the answer is 0 and 0.
  *   records   the lent records, n bytes each; there may be none. Each run may bring new ones while no record write is
- *             pending (writer kind not 2); while one is, the record at its index stays the one that was announced
+ *             pending; while one is (writer kind 2), the record at the writer's index stays the one that was announced
  *   commands  a byte of kind, then its body; longer numbers are high byte first
  *               01 write a count (8 bytes)            05 begin a record read (reader, attempts allowed)
  *               02 write a record (2 bytes: index)    06 reader step (reader)

@@ -186,8 +186,8 @@ impl Page {
     }
 
     /// Carry out commands up to the first that is refused. `records` are the lent records, n bytes each. Each run may
-    /// bring new ones while no record write is pending; while one is, the record at its index must stay the one that
-    /// was announced, or a reader may accept a mixture of both.
+    /// bring new ones while no record write is pending; while one is, the record at its index ([`Page::pending_record`])
+    /// must stay the one that was announced, or a reader may accept a mixture of both.
     pub fn run<'a>(&mut self, records: &[u8], commands: &[u8], log: &'a mut [u8]) -> Ran<'a> {
         let (answer, number) = self.lend(|lent| lent.run(records, commands, log));
         Ran { done: answer.done, log: &log[..answer.written], ending: ending(number) }
@@ -203,6 +203,11 @@ impl Page {
         let Page { format, page, writer, readers, buffers } = self;
         let numbers = raw::Format { q: format.q, base: format.base, n: format.n, readers: format.readers };
         call(&mut Lent { format: &numbers, bases: &format.bases, page, writer, readers, buffers })
+    }
+
+    /// The index of the lent record whose write is pending, if there is one. Until it ends, that record must not change.
+    pub fn pending_record(&self) -> Option<usize> {
+        (self.writer.kind == 2).then_some(self.writer.index)
     }
 
     pub fn format(&self) -> &Format {

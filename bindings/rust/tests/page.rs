@@ -158,3 +158,27 @@ fn refusals_have_their_numbers() {
     assert_eq!(Refusal::NoSuch as u8, 8);
     assert_eq!(Refusal::LogFull as u8, 12);
 }
+
+/// What reader 0 accepts of record 1, if these records are lent to the write's first two steps, those to its last two
+/// and to the read.
+fn accepted(first: &[u8], rest: &[u8]) -> Vec<u8> {
+    let mut page = opened(&[10], 4);
+    let mut log = [0; 100];
+    let begun = commands([vec![WriteRecord(1)], steps(WriterStep, 2)].concat());
+    assert_eq!(page.run(first, &begun, &mut log).ending, Ok(()));
+    assert_eq!(page.pending_record(), Some(1));
+    let read = [vec![BeginRecordRead { reader: 0, attempts: 1 }], steps(ReaderStep(0), 4)].concat();
+    let ended = commands([steps(WriterStep, 2), read].concat());
+    let ran = page.run(rest, &ended, &mut log);
+    assert_eq!(ran.entries().last(), Some(Entry::Accepted { reader: 0, attempts: 1, version: Version(1) }));
+    assert_eq!(page.pending_record(), None);
+    page.buffer(0).unwrap().to_vec()
+}
+
+#[test]
+fn takes_new_records_beside_a_pending_one() {
+    assert_eq!(accepted(b"bbcd", b"bbcd"), b"cd");
+    assert_eq!(accepted(b"bbcd", b"xxcdyy"), b"cd");
+    // What the promise excludes: the pending record itself was changed.
+    assert_eq!(accepted(b"bbcd", b"bbxy"), b"cy");
+}
