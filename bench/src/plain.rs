@@ -1,6 +1,6 @@
 //! Document 01 in plain Rust, over the same lent memory as the proved archive: the baseline of the bench, and the other
-//! side of the fuzz program. It is written from document 01 to be fast: a run checks its memory once, and after that a
-//! command costs a look at its kind and one byte moved.
+//! side of the fuzz program. It is written from document 01 to be fast: a run checks its memory once, digits eight at a
+//! time, and after that a command costs a look at its kind and one byte moved.
 use lagumtay::raw::{Answer, Format, Lent, Reader, Writer};
 use lagumtay::Refusal::{self, *};
 
@@ -12,6 +12,7 @@ const RECORD: u8 = 2;
 pub type Ending = Result<(), Refusal>;
 
 /// Document 01's number of an ending: 0 if nothing was refused.
+#[inline]
 pub fn number(ending: Ending) -> u8 {
     ending.map_or_else(|why| why as u8, |()| 0)
 }
@@ -19,10 +20,10 @@ pub fn number(ending: Ending) -> u8 {
 /// The opening. A refused one changes nothing.
 pub fn open(lent: &mut Lent, count: u64, record: &[u8]) -> Ending {
     let Lent { format, bases, .. } = *lent;
-    check_format(format, bases)?;
+    let counts = good_places(format, bases)?;
     check_lengths(lent)?;
     ensure(record.len() == format.n, WrongLength)?;
-    let digits = count_digits(bases, count).ok_or(CountTooLarge)?;
+    let digits = counts.digits(count).ok_or(CountTooLarge)?.to_be_bytes();
     let m = bases.len();
     let (c1, rest) = lent.page.split_at_mut(m);
     let (c2, rest) = rest.split_at_mut(m);
@@ -42,18 +43,19 @@ pub fn open(lent: &mut Lent, count: u64, record: &[u8]) -> Ending {
 /// A run: refusals 1 to 3 once at its start, then the commands in order up to the first that is refused.
 #[inline(never)] // the archive's run cannot be inlined either
 pub fn run(lent: &mut Lent, records: &[u8], commands: &[u8], log: &mut [u8]) -> (Answer, Ending) {
-    if let Err(why) = check(lent, records) {
-        return (Answer::default(), Err(why));
-    }
+    let most = match check(lent, records) {
+        Ok(most) => most,
+        Err(why) => return (Answer::default(), Err(why)),
+    };
     let mut log = Log { bytes: log, written: 0 };
-    let (done, ending) = Machine::new(lent, records).commands(commands, &mut log);
+    let (done, ending) = Machine::new(lent, records, most).commands(commands, &mut log);
     (Answer { done, written: log.written }, ending)
 }
 
 /// The run of one command that cancels this reader's read.
 pub fn cancel(lent: &mut Lent, records: &[u8], who: u8) -> Ending {
-    check(lent, records)?;
-    Machine::new(lent, records).cancel(who)
+    let most = check(lent, records)?;
+    Machine::new(lent, records, most).cancel(who)
 }
 
 fn ensure(condition: bool, otherwise: Refusal) -> Ending {
@@ -64,30 +66,165 @@ fn ensure(condition: bool, otherwise: Refusal) -> Ending {
     }
 }
 
+// DIGITS, EIGHT AT ONCE: in one number, the leftmost digit in the highest byte, zeros past the last. So they compare as
+// their values do.
+
+/// All bits of so many places.
+fn high(places: usize) -> u64 {
+    if places < 8 {
+        !(u64::MAX >> (8 * places))
+    } else {
+        u64::MAX
+    }
+}
+
+/// Is each digit at most the other's?
+fn within(digits: u64, most: u64) -> bool {
+    // Exactly then the subtraction of all at once takes nothing from a byte for the one below it.
+    let (difference, taken) = most.overflowing_sub(digits);
+    !taken & ((difference ^ most ^ digits) & 0x0101_0101_0101_0100 == 0)
+}
+
+/// The digits of up to eight places.
+fn packed(digits: &[u8]) -> u64 {
+    match digits.try_into() {
+        Ok(eight) => u64::from_be_bytes(eight),
+        Err(_) => digits.iter().rev().fold(0, |x, &digit| x >> 8 | u64::from(digit) << 56),
+    }
+}
+
+/// The largest digits of a version.
+fn top_version(base: u16, q: usize) -> u64 {
+    (u64::from(base - 1) * 0x0101_0101_0101_0101) & high(q)
+}
+
+/// The places of a count or of a version: their bases, and the largest digits.
+#[derive(Clone, Copy)]
+struct Radix<'a> {
+    bases: &'a [u16],
+    most: u64,
+}
+
+impl<'a> Radix<'a> {
+    /// Versions of q places.
+    fn versions(base: &'a [u16; 4], q: usize) -> Radix<'a> {
+        Radix { bases: &base[..q], most: top_version(base[0], q) }
+    }
+
+    /// Are all bases 256, so that the digits are the number's bytes?
+    fn bytewise(self) -> bool {
+        self.most == high(self.bases.len())
+    }
+
+    /// The bits past the last place.
+    fn spare(self) -> usize {
+        64 - 8 * self.bases.len()
+    }
+
+    /// Is each digit at the front of these bytes below its base?
+    #[inline(always)]
+    fn valid(self, bytes: &[u8]) -> bool {
+        match bytes.first_chunk() {
+            Some(&eight) => within(u64::from_be_bytes(eight) >> self.spare(), self.most >> self.spare()),
+            None => bytes.iter().zip(self.bases).all(|(&digit, &base)| u16::from(digit) < base),
+        }
+    }
+
+    /// Is the number below the product of the bases? If that overflows, every number is.
+    fn fits(self, number: u64) -> bool {
+        if self.bytewise() {
+            return number << self.spare() >> self.spare() == number;
+        }
+        let product = self.bases.iter().try_fold(1u64, |x, &base| x.checked_mul(base.into()));
+        product.is_none_or(|product| number < product)
+    }
+
+    /// The digits of a number, if it fits.
+    fn digits(self, number: u64) -> Option<u64> {
+        if self.bytewise() {
+            return self.fits(number).then_some(number << self.spare());
+        }
+        let (digits, rest) = self.bases.iter().rev().fold((0, number), |(digits, x), &base| {
+            let base = u64::from(base);
+            (digits >> 8 | (x % base) << 56, x / base)
+        });
+        (rest == 0).then_some(digits)
+    }
+
+    fn value(self, digits: u64) -> u64 {
+        if self.bytewise() {
+            return digits >> self.spare();
+        }
+        let digits = digits.to_be_bytes();
+        self.bases.iter().zip(digits).fold(0, |x, (&base, digit)| x * u64::from(base) + u64::from(digit))
+    }
+}
+
 // THE CHECKS AT THE START OF A CALL
 
-fn check(lent: &Lent, records: &[u8]) -> Ending {
+/// All that refusals 1 to 3 ask of a run; gives the largest digits of a count.
+#[inline(never)] // so that it has all registers, and the commands have
+fn check(lent: &Lent, records: &[u8]) -> Result<u64, Refusal> {
     let Lent { format, bases, .. } = *lent;
-    check_format(format, bases)?;
+    let counts = good_places(format, bases)?;
     check_lengths(lent)?;
-    ensure(records.len().is_multiple_of(format.n), WrongLength)?;
-    let valid = valid_page(format, bases, lent.page)
-        && valid_writer(format, bases, records, lent.writer)
-        && lent.readers.iter().all(|reader| valid_reader(format, bases, reader));
-    ensure(valid, InvalidState)
+    let Format { q, base, n, .. } = *format;
+    ensure(records.len().is_multiple_of(n), WrongLength)?;
+    let m = bases.len();
+    let page = &*lent.page;
+    ensure(counts.valid(page) && counts.valid(&page[m..]), InvalidState)?;
+    let below = |digits: &[u8]| digits.iter().all(|&digit| u16::from(digit) < base);
+    ensure(below(&page[2 * m..][..q]) && below(&page[2 * m + q + n..]), InvalidState)?;
+    let w = &*lent.writer;
+    let valid_writer = match u8::try_from(w.kind) {
+        Ok(IDLE) => *w == Writer::default(),
+        Ok(COUNT) => w.index == 0 && w.version == 0 && w.steps < 2 * m && counts.fits(w.count),
+        Ok(RECORD) => {
+            w.count == 0
+                && w.steps < 2 * q + n
+                && w.version != 0
+                && u64::from(w.version) < u64::from(base).pow(q as u32)
+                && w.index.checked_mul(n).is_some_and(|at| at < records.len())
+        }
+        _ => false,
+    };
+    ensure(valid_writer, InvalidState)?;
+    let versions = top_version(base, q);
+    for r in lent.readers.iter() {
+        let valid_reader = match r.kind {
+            IDLE => *r == Reader::default(),
+            COUNT => r.allowed == 0 && r.finished == 0 && valid_gathered(r, counts.most, 2 * m),
+            RECORD => r.finished < r.allowed && valid_gathered(r, versions, 2 * q + n),
+            _ => false,
+        };
+        ensure(valid_reader, InvalidState)?;
+    }
+    Ok(counts.most)
 }
 
 pub fn check_format(format: &Format, bases: &[u16]) -> Ending {
-    let good_base = |base: &u16| (2..=256).contains(base);
-    let good = (1..=8).contains(&bases.len())
-        && bases.iter().all(good_base)
-        && (1..=4).contains(&format.q)
-        && good_base(&format.base)
-        && (1..=256).contains(&format.n)
-        && (1..=16).contains(&format.readers);
-    ensure(good, BadFormat)
+    good_places(format, bases).map(|_| ())
 }
 
+/// The places of a count, if the format is good.
+#[inline(always)]
+fn good_places<'a>(format: &Format, bases: &'a [u16]) -> Result<Radix<'a>, Refusal> {
+    let good_base = |base: u16| (2..=256).contains(&base);
+    let good = (1..=8).contains(&bases.len())
+        && (1..=4).contains(&format.q)
+        && good_base(format.base)
+        && (1..=256).contains(&format.n)
+        && (1..=16).contains(&format.readers);
+    ensure(good, BadFormat)?;
+    let mut most = 0;
+    for &base in bases {
+        ensure(good_base(base), BadFormat)?;
+        most = most << 8 | u64::from(base - 1);
+    }
+    Ok(Radix { bases, most: most << (64 - 8 * bases.len()) })
+}
+
+#[inline(always)]
 fn check_lengths(lent: &Lent) -> Ending {
     let Format { q, n, readers, .. } = *lent.format;
     let good = lent.page.len() == 2 * lent.bases.len() + 2 * q + n
@@ -96,109 +233,17 @@ fn check_lengths(lent: &Lent) -> Ending {
     ensure(good, WrongLength)
 }
 
-fn valid_page(format: &Format, bases: &[u16], page: &[u8]) -> bool {
-    let (c1, rest) = page.split_at(bases.len());
-    let (c2, rest) = rest.split_at(bases.len());
-    let (v1, rest) = rest.split_at(format.q);
-    let v2 = &rest[format.n..];
-    let versions = [format.base; 4];
-    below(c1, bases) && below(c2, bases) && below(v1, &versions) && below(v2, &versions)
+/// Of all the steps that a count read or an attempt has, the first gather digits into the first half from the left, and
+/// the last into the second half from the right. Are these at most the largest, and all others zero?
+#[inline(always)]
+fn valid_gathered(reader: &Reader, most: u64, all: usize) -> bool {
+    let (first, second) = halves(reader);
+    reader.steps < all && within(first, most & high(reader.steps)) && within(second, most & !high(all - reader.steps))
 }
 
-/// Is every digit below its base?
-fn below(digits: &[u8], bases: &[u16]) -> bool {
-    digits.iter().zip(bases).all(|(&digit, &base)| u16::from(digit) < base)
-}
-
-fn valid_writer(format: &Format, bases: &[u16], records: &[u8], w: &Writer) -> bool {
-    match u8::try_from(w.kind) {
-        Ok(IDLE) => *w == Writer::default(),
-        Ok(COUNT) => w.index == 0 && w.version == 0 && w.steps < 2 * bases.len() && count_fits(bases, w.count),
-        Ok(RECORD) => {
-            w.count == 0
-                && w.steps < 2 * format.q + format.n
-                && w.version != 0
-                && w.version <= top_version(format)
-                && w.index < records.len() / format.n
-        }
-        _ => false,
-    }
-}
-
-fn valid_reader(format: &Format, bases: &[u16], reader: &Reader) -> bool {
-    let Format { q, n, .. } = *format;
-    match reader.kind {
-        IDLE => *reader == Reader::default(),
-        COUNT => {
-            reader.allowed == 0
-                && reader.finished == 0
-                && reader.steps < 2 * bases.len()
-                && valid_gathered(&reader.digits, bases, reader.steps)
-        }
-        RECORD => {
-            reader.finished < reader.allowed
-                && reader.steps < 2 * q + n
-                && valid_gathered(
-                    &reader.digits,
-                    &[format.base; 4][..q],
-                    reader.steps.min(q) + reader.steps.saturating_sub(q + n),
-                )
-        }
-        _ => false,
-    }
-}
-
-/// Of both halves, the first from the left and the second from the right, `gathered` digits are below their bases and
-/// all others are zero.
-fn valid_gathered(digits: &[u8; 16], bases: &[u16], gathered: usize) -> bool {
-    let w = bases.len();
-    let (first, second) = digits.split_at(8);
-    let (here, missing) = first.split_at(gathered.min(w));
-    let (before, rest) = second.split_at(w - gathered.saturating_sub(w));
-    let (there, after) = rest.split_at(w - before.len());
-    let zero = |digits: &[u8]| digits.iter().all(|&digit| digit == 0);
-    below(here, bases) && zero(missing) && zero(before) && below(there, &bases[before.len()..]) && zero(after)
-}
-
-// NUMBERS
-
-/// Is the count below the product of the bases? If that overflows, every count is.
-fn count_fits(bases: &[u16], count: u64) -> bool {
-    let product = bases.iter().try_fold(1u64, |x, &base| x.checked_mul(base.into()));
-    product.is_none_or(|product| count < product)
-}
-
-/// The digits of a count; none if it is not below the product of the bases.
-fn count_digits(bases: &[u16], count: u64) -> Option<[u8; 8]> {
-    let mut digits = [0; 8];
-    let mut x = count;
-    for (digit, &base) in digits[..bases.len()].iter_mut().zip(bases).rev() {
-        *digit = (x % u64::from(base)) as u8;
-        x /= u64::from(base);
-    }
-    (x == 0).then_some(digits)
-}
-
-fn value(digits: &[u8], bases: &[u16]) -> u64 {
-    digits.iter().zip(bases).fold(0, |x, (&digit, &base)| x * u64::from(base) + u64::from(digit))
-}
-
-fn version_value(digits: &[u8], base: u16) -> u32 {
-    digits.iter().fold(0, |x, &digit| x * u32::from(base) + u32::from(digit))
-}
-
-fn top_version(format: &Format) -> u32 {
-    (u64::from(format.base).pow(format.q as u32) - 1) as u32
-}
-
-/// What a count read shows that gathered `a` from c1 and `b` from c2.
-fn shown(a: &[u8], b: &[u8], bases: &[u16]) -> Result<u64, Refusal> {
-    let Some(p) = a.iter().zip(b).position(|(x, y)| x != y) else {
-        return Ok(value(a, bases));
-    };
-    ensure(a[p] < b[p], CopiesCrossed)?;
-    let kept = value(&b[..=p], bases);
-    Ok(bases[p + 1..].iter().fold(kept, |x, &base| x * u64::from(base)))
+fn halves(reader: &Reader) -> (u64, u64) {
+    let digits = u128::from_be_bytes(reader.digits);
+    ((digits >> 64) as u64, digits as u64)
 }
 
 // ONE COMMAND AFTER ANOTHER
@@ -219,67 +264,80 @@ impl Log<'_> {
 }
 
 struct Machine<'a> {
-    format: Format,
-    bases: &'a [u16],
-    page: &'a mut [u8],
+    counts: Radix<'a>,
+    /// the base of a version's places
+    base: u16,
+    /// c1 and c2
+    copies: &'a mut [u8],
+    v1: &'a mut [u8],
+    content: &'a mut [u8],
+    v2: &'a mut [u8],
     writer: &'a mut Writer,
     readers: &'a mut [Reader],
     buffers: &'a mut [u8],
     records: &'a [u8],
-    /// The digits of the number that the pending write writes, from its first step in this run on.
-    digits: Option<[u8; 8]>,
+    /// what a pending record write writes
+    record: &'a [u8],
+    /// the digits of the number that the pending write writes, from the first step in this run that needs them on
+    digits: Option<u64>,
 }
 
+// All of it is put into one loop over the commands. What is long and seldom is called: it would take the loop's registers.
 impl<'a> Machine<'a> {
-    fn new(lent: &'a mut Lent, records: &'a [u8]) -> Machine<'a> {
+    #[inline(always)]
+    fn new(lent: &'a mut Lent, records: &'a [u8], most: u64) -> Machine<'a> {
         let Lent { format, bases, page, writer, readers, buffers } = lent;
-        Machine { format: **format, bases, page, writer, readers, buffers, records, digits: None }
+        let Format { q, base, n, .. } = **format;
+        let (copies, rest) = page.split_at_mut(2 * bases.len());
+        let (v1, rest) = rest.split_at_mut(q);
+        let (content, v2) = rest.split_at_mut(n);
+        let record = if writer.kind == RECORD.into() { &records[writer.index * n..][..n] } else { &[] };
+        let counts = Radix { bases, most };
+        Machine { counts, base, copies, v1, content, v2, writer, readers, buffers, records, record, digits: None }
     }
 
     /// The commands up to the first that is refused: how many were carried out, and the refusal.
-    fn commands(&mut self, commands: &[u8], log: &mut Log) -> (usize, Ending) {
-        let mut rest = commands;
+    #[inline(always)]
+    fn commands(mut self, commands: &[u8], log: &mut Log) -> (usize, Ending) {
+        let mut bytes = commands.iter();
         let mut done = 0;
-        while !rest.is_empty() {
-            match self.command(rest, log) {
-                Ok(next) => rest = next,
-                Err(why) => return (done, Err(why)),
+        while let Some(&kind) = bytes.next() {
+            // Almost all are steps: they are told apart first, by comparing.
+            let ending = match kind {
+                3 => self.writer_step(),
+                6 => bytes.next().ok_or(UnknownCommand).and_then(|&who| self.reader_step(who, log)),
+                _ => self.no_step(kind, bytes.as_slice()).map(|rest| bytes = rest.iter()),
+            };
+            if ending.is_err() {
+                return (done, ending);
             }
             done += 1;
         }
         (done, Ok(()))
     }
 
-    /// The first of the commands; gives the bytes after it.
+    /// A command that is no step, of this kind and with its body in front of these bytes; gives the bytes after it.
     #[inline(always)]
-    fn command<'c>(&mut self, commands: &'c [u8], log: &mut Log) -> Result<&'c [u8], Refusal> {
-        let rest = match commands {
-            [1, a, b, c, d, e, f, g, h, rest @ ..] => {
+    fn no_step<'c>(&mut self, kind: u8, bytes: &'c [u8]) -> Result<&'c [u8], Refusal> {
+        let rest = match (kind, bytes) {
+            (1, [a, b, c, d, e, f, g, h, rest @ ..]) => {
                 self.begin_count_write(u64::from_be_bytes([*a, *b, *c, *d, *e, *f, *g, *h]))?;
                 rest
             }
-            [2, high, low, rest @ ..] => {
+            (2, [high, low, rest @ ..]) => {
                 self.begin_record_write(u16::from_be_bytes([*high, *low]).into())?;
                 rest
             }
-            [3, rest @ ..] => {
-                self.writer_step()?;
-                rest
-            }
-            [4, who, rest @ ..] => {
+            (4, [who, rest @ ..]) => {
                 self.begin_read(*who, COUNT, 0)?;
                 rest
             }
-            [5, who, allowed, rest @ ..] => {
+            (5, [who, allowed, rest @ ..]) => {
                 ensure(*allowed != 0, NoSuch)?;
                 self.begin_read(*who, RECORD, *allowed)?;
                 rest
             }
-            [6, who, rest @ ..] => {
-                self.reader_step(*who, log)?;
-                rest
-            }
-            [7, who, rest @ ..] => {
+            (7, [who, rest @ ..]) => {
                 self.cancel(*who)?;
                 rest
             }
@@ -288,73 +346,72 @@ impl<'a> Machine<'a> {
         Ok(rest)
     }
 
+    #[inline(always)]
     fn begin_count_write(&mut self, count: u64) -> Ending {
         ensure(self.writer.kind == IDLE.into(), Busy)?;
-        let digits = count_digits(self.bases, count).ok_or(CountTooLarge)?;
-        let m = self.bases.len();
-        // Digits from the left compare as their numbers do.
-        ensure(digits[..m] >= self.page[m..2 * m], CountDecreases)?;
-        self.digits = Some(digits);
+        self.digits = Some(next_count(self.counts, self.copies, count)?);
         *self.writer = Writer { kind: COUNT.into(), count, ..Writer::default() };
         Ok(())
     }
 
+    #[inline(always)]
     fn begin_record_write(&mut self, index: usize) -> Ending {
-        ensure(index < self.records.len() / self.format.n, NoSuch)?;
+        let n = self.content.len();
+        let record = self.records.get(index * n..(index + 1) * n).ok_or(NoSuch)?;
         ensure(self.writer.kind == IDLE.into(), Busy)?;
-        let v1 = 2 * self.bases.len();
-        let version = version_value(&self.page[v1..v1 + self.format.q], self.format.base);
-        ensure(version < top_version(&self.format), VersionsExhausted)?;
+        let version = next_version(self.base, self.v1)?;
+        self.record = record;
         self.digits = None;
-        *self.writer = Writer { kind: RECORD.into(), version: version + 1, index, ..Writer::default() };
+        *self.writer = Writer { kind: RECORD.into(), version, index, ..Writer::default() };
         Ok(())
     }
 
-    /// The digits that the pending write writes.
-    fn digits(&mut self) -> &[u8; 8] {
-        self.digits.get_or_insert_with(|| {
-            let versions = [self.format.base; 4];
-            let digits = if self.writer.kind == COUNT.into() {
-                count_digits(self.bases, self.writer.count)
-            } else {
-                count_digits(&versions[..self.format.q], self.writer.version.into())
-            };
-            digits.expect("the number of a pending write has digits: the start of the run has checked it")
-        })
+    /// A digit that the pending write writes.
+    #[inline(always)]
+    fn digit(&mut self, place: usize) -> u8 {
+        let make = || pending_digits(self.counts, self.base, self.v1.len(), self.writer);
+        (*self.digits.get_or_insert_with(make) >> (56 - 8 * place)) as u8
     }
 
+    #[inline(always)]
     fn writer_step(&mut self) -> Ending {
-        let Format { q, n, .. } = self.format;
-        let m = self.bases.len();
         let k = self.writer.steps;
-        let all = match self.writer.kind as u8 {
+        let left = match self.writer.kind as u8 {
             IDLE => return Err(NothingPending),
             COUNT => {
                 // c2 left to right, c1 right to left
-                let (to, digit) = if k < m { (m + k, k) } else { (2 * m - 1 - k, 2 * m - 1 - k) };
-                self.page[to] = self.digits()[digit];
-                2 * m
+                let m = self.counts.bases.len();
+                let left = 2 * m - 1 - k;
+                let (to, place) = if k < m { (m + k, k) } else { (left, left) };
+                self.copies[to] = self.digit(place);
+                left
             }
             _ => {
                 // v1 left to right, the bytes ascending, v2 right to left
-                if k < q {
-                    self.page[2 * m + k] = self.digits()[k];
-                } else if k < q + n {
-                    self.page[2 * m + k] = self.records[self.writer.index * n + k - q];
-                } else {
-                    let j = 2 * q + n - 1 - k;
-                    self.page[2 * m + q + n + j] = self.digits()[j];
+                let q = self.v1.len();
+                let byte = k.wrapping_sub(q);
+                if let Some(to) = self.content.get_mut(byte) {
+                    *to = self.record[byte];
+                    self.writer.steps = k + 1;
+                    return Ok(());
                 }
-                2 * q + n
+                let left = 2 * q + self.content.len() - 1 - k;
+                if k < q {
+                    self.v1[k] = self.digit(k);
+                } else {
+                    self.v2[left] = self.digit(left);
+                }
+                left
             }
         };
         self.writer.steps = k + 1;
-        if k + 1 == all {
+        if left == 0 {
             *self.writer = Writer::default();
         }
         Ok(())
     }
 
+    #[inline(always)]
     fn begin_read(&mut self, who: u8, kind: u8, allowed: u8) -> Ending {
         let reader = self.readers.get_mut(usize::from(who)).ok_or(NoSuch)?;
         ensure(reader.kind == IDLE, Busy)?;
@@ -362,6 +419,7 @@ impl<'a> Machine<'a> {
         Ok(())
     }
 
+    #[inline(always)]
     fn cancel(&mut self, who: u8) -> Ending {
         let reader = self.readers.get_mut(usize::from(who)).ok_or(NoSuch)?;
         ensure(reader.kind != IDLE, NothingPending)?;
@@ -369,65 +427,95 @@ impl<'a> Machine<'a> {
         Ok(())
     }
 
+    #[inline(always)]
     fn reader_step(&mut self, who: u8, log: &mut Log) -> Ending {
         let reader = self.readers.get_mut(usize::from(who)).ok_or(NoSuch)?;
+        let k = reader.steps;
         match reader.kind {
             IDLE => return Err(NothingPending),
             COUNT => {
                 // c1 left to right, c2 right to left
-                let m = self.bases.len();
-                let k = reader.steps;
-                if k < m {
-                    reader.digits[k] = self.page[k];
-                } else if k + 1 < 2 * m {
-                    let j = 2 * m - 1 - k;
-                    reader.digits[8 + j] = self.page[m + j];
-                } else {
-                    return end_count_read(reader, self.page[m], self.bases, who, log);
+                let m = self.counts.bases.len();
+                let left = 2 * m - 1 - k;
+                if left == 0 {
+                    return end_count_read(self.counts, reader, self.copies[m], who, log);
                 }
+                let (from, to) = if k < m { (k, k) } else { (m + left, 8 + left) };
+                reader.digits[to] = self.copies[from];
             }
             _ => {
                 // v2 left to right, the bytes ascending into the buffer, v1 right to left
-                let Format { q, n, .. } = self.format;
-                let v1 = 2 * self.bases.len();
-                let k = reader.steps;
-                if k < q {
-                    reader.digits[k] = self.page[v1 + q + n + k];
-                } else if k < q + n {
-                    self.buffers[usize::from(who) * n + k - q] = self.page[v1 + k];
-                } else if k + 1 < 2 * q + n {
-                    let j = 2 * q + n - 1 - k;
-                    reader.digits[8 + j] = self.page[v1 + j];
+                let (q, n) = (self.v1.len(), self.content.len());
+                let byte = k.wrapping_sub(q);
+                if let Some(&from) = self.content.get(byte) {
+                    self.buffers[usize::from(who) * n + byte] = from;
+                } else if k < q {
+                    reader.digits[k] = self.v2[k];
                 } else {
-                    let buffer = &mut self.buffers[usize::from(who) * n..][..n];
-                    return end_attempt(reader, self.page[v1], &self.format, buffer, who, log);
+                    let left = 2 * q + n - 1 - k;
+                    if left == 0 {
+                        let buffer = &mut self.buffers[usize::from(who) * n..][..n];
+                        return end_attempt(self.base, self.v1, reader, buffer, who, log);
+                    }
+                    reader.digits[8 + left] = self.v1[left];
                 }
             }
         }
-        reader.steps += 1;
+        reader.steps = k + 1;
         Ok(())
     }
 }
 
+/// The digits of a count that may be written next to c1 and c2.
+#[inline(never)]
+fn next_count(counts: Radix, copies: &[u8], count: u64) -> Result<u64, Refusal> {
+    let digits = counts.digits(count).ok_or(CountTooLarge)?;
+    ensure(digits >= packed(&copies[counts.bases.len()..]), CountDecreases)?;
+    Ok(digits)
+}
+
+/// The version to be written next to v1.
+#[inline(never)]
+fn next_version(base: u16, v1: &[u8]) -> Result<u32, Refusal> {
+    let bases = [base; 4];
+    let versions = Radix::versions(&bases, v1.len());
+    let last = packed(v1);
+    ensure(last != versions.most, VersionsExhausted)?;
+    Ok(versions.value(last) as u32 + 1)
+}
+
+/// The digits of the number that the pending write writes.
+#[inline(never)]
+fn pending_digits(counts: Radix, base: u16, q: usize, writer: &Writer) -> u64 {
+    let digits = match writer.kind as u8 {
+        COUNT => counts.digits(writer.count),
+        _ => Radix::versions(&[base; 4], q).digits(writer.version.into()),
+    };
+    digits.expect("the number of a pending write fits: the start of the run has checked it")
+}
+
 /// The last step of a count read, with the digit that it reads.
-fn end_count_read(reader: &mut Reader, digit: u8, bases: &[u16], who: u8, log: &mut Log) -> Ending {
-    let m = bases.len();
-    let mut digits = reader.digits;
-    digits[8] = digit;
-    let [a, b, c, d, e, f, g, h] = shown(&digits[..m], &digits[8..8 + m], bases)?.to_be_bytes();
+#[inline(never)]
+fn end_count_read(counts: Radix, reader: &mut Reader, digit: u8, who: u8, log: &mut Log) -> Ending {
+    let (a, b) = halves(reader);
+    let b = b | u64::from(digit) << 56;
+    ensure(a <= b, CopiesCrossed)?;
+    let agree = (a ^ b).leading_zeros() as usize / 8;
+    let [a, b, c, d, e, f, g, h] = counts.value(b & high(agree + 1)).to_be_bytes();
     log.put([1, who, a, b, c, d, e, f, g, h])?;
     *reader = Reader::default();
     Ok(())
 }
 
-/// The last step of an attempt at a record read, with the digit that it reads.
-fn end_attempt(reader: &mut Reader, digit: u8, format: &Format, buffer: &mut [u8], who: u8, log: &mut Log) -> Ending {
-    let mut digits = reader.digits;
-    digits[8] = digit;
+/// The last step of an attempt at a record read, which reads the first digit of v1.
+#[inline(never)]
+fn end_attempt(base: u16, v1: &[u8], reader: &mut Reader, buffer: &mut [u8], who: u8, log: &mut Log) -> Ending {
+    let (first, second) = halves(reader);
+    let second = second | u64::from(v1[0]) << 56;
     let used = reader.finished + 1;
-    // Past the q digits of v2 and of v1 both are zero.
-    if digits[..4] == digits[8..12] {
-        let [a, b, c, d] = version_value(&digits[..format.q], format.base).to_be_bytes();
+    if first == second {
+        let version = Radix::versions(&[base; 4], v1.len()).value(first) as u32;
+        let [a, b, c, d] = version.to_be_bytes();
         log.put([2, who, used, a, b, c, d])?;
         *reader = Reader::default();
     } else if used < reader.allowed {

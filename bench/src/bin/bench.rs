@@ -1,11 +1,14 @@
 //! Times the archive's run beside the plain one, on the same commands in one process, and prints nanoseconds a command.
 //!
-//!     cargo run --release --bin bench
+//!     cargo run --release --bin bench [-- --repeat N]
 //!
-//! Both take turns; the least time of each counts, since whatever else the machine does only adds to it. Exit status 1:
-//! the two left different bytes, or the cost is not linear in the commands.
+//! Both take turns; the least time of each counts, since whatever else the machine does only adds to it. With --repeat
+//! all is measured N times: a cell has the least times of all, and the least and the greatest ratio. Exit status 1: the
+//! two left different bytes, or the cost is not linear in the commands; 2: bad usage.
+use std::hint::black_box;
 use std::process::exit;
 use std::time::{Duration, Instant};
+use std::{env, fmt};
 
 use lagumtay::raw::{Answer, Format};
 use lagumtay_bench::owned::Owned;
@@ -13,11 +16,39 @@ use lagumtay_bench::plain::{self, number};
 use lagumtay_bench::random::Random;
 
 const COMMANDS: usize = 30_000;
-/// Turns go on for so long, and there are so many at least: a short disturbance must not decide.
-const TURNS: usize = 15;
+/// How many commands a run has, column by column.
+const RUNS: [usize; 3] = [1, 100, COMMANDS];
+/// Turns go on for so long, and there are so many at least: neither a short disturbance nor the place of the stack must
+/// decide.
+const TURNS: usize = 64;
 const TIME: Duration = Duration::from_millis(600);
 /// How much dearer a command of a four times longer run may be before the cost counts as not linear.
 const MOST_GROWTH: f64 = 1.5;
+
+/// The table, row by row: its name, the readers, and the commands.
+const ROWS: &[(&str, usize, Schedule)] = &[
+    ("count writes and reads, m = 2", 1, Counts { m: 2 }),
+    ("count writes and reads, m = 8", 1, Counts { m: 8 }),
+    ("record writes and reads, n = 2", 1, Records { n: 2 }),
+    ("record writes and reads, n = 256", 1, Records { n: 256 }),
+    ("counts and records, steps in random order", 1, Mixed { most: 1 }),
+    ("16 readers, count writes and reads, m = 2", 16, Counts { m: 2 }),
+    ("16 readers, count writes and reads, m = 8", 16, Counts { m: 8 }),
+    ("16 readers, record writes and reads, n = 2", 16, Records { n: 2 }),
+    ("16 readers, record writes and reads, n = 256", 16, Records { n: 256 }),
+    ("16 readers, counts and records mixed", 16, Mixed { most: 6 }),
+    ("16 readers, counts and records, steps in random order", 16, Mixed { most: 1 }),
+];
+
+enum Schedule {
+    /// One count after the other, written and then read by the next reader.
+    Counts { m: usize },
+    /// One record after the other, written and then read by the next reader.
+    Records { n: usize },
+    /// Readers of counts and records in random turns with a writer of both; a turn has up to so many commands.
+    Mixed { most: usize },
+}
+use Schedule::*;
 
 /// A page, the records that are lent for it, and one log for all runs.
 #[derive(Clone, PartialEq)]
@@ -61,8 +92,22 @@ struct Case {
 }
 
 impl Case {
-    fn new(name: &'static str, opened: Hall) -> Case {
-        Case { name, opened, bytes: Vec::new(), begins: vec![0] }
+    /// A row's commands, so many, with a log that holds all entries.
+    fn new(&(name, readers, ref schedule): &(&'static str, usize, Schedule), commands: usize) -> Case {
+        let mut case = match *schedule {
+            Counts { m } => Case::counts(readers, m, commands),
+            Records { n } => Case::records(readers, n, commands),
+            Mixed { most } => Case::mixed(readers, most, commands),
+        };
+        case.name = name;
+        case.begins.truncate(commands + 1);
+        case.bytes.truncate(case.begins[commands]);
+        case.opened.log = vec![0; 10 * commands];
+        case
+    }
+
+    fn empty(opened: Hall) -> Case {
+        Case { name: "", opened, bytes: Vec::new(), begins: vec![0] }
     }
 
     fn commands(&self) -> usize {
@@ -74,161 +119,218 @@ impl Case {
         self.begins.push(self.bytes.len());
     }
 
-    fn push_times(&mut self, times: usize, command: &[u8]) {
-        (0..times).for_each(|_| self.push(command));
+    fn counts(readers: usize, m: usize, commands: usize) -> Case {
+        let format = Format { q: 1, base: 2, n: 1, readers };
+        // Large counts, so that each digit takes part.
+        let first = (1u64 << (8 * m - 1)) + 1;
+        let opened = Hall::open(&vec![256; m], format, first, vec![0]);
+        let write = |i| count_write(first + 1 + i as u64);
+        Case::in_turn(opened, commands, 2 * m, write, |reader| vec![4, reader])
     }
 
-    /// Cut to so many commands, with a log that holds all entries.
-    fn finish(mut self, commands: usize) -> Case {
-        self.begins.truncate(commands + 1);
-        self.bytes.truncate(self.begins[commands]);
-        self.opened.log = vec![0; 10 * commands];
-        self
+    fn records(readers: usize, n: usize, commands: usize) -> Case {
+        let format = Format { q: 2, base: 256, n, readers };
+        let opened = Hall::open(&[10], format, 0, Random::new(n as u64).bytes(16 * n));
+        let write = |i| vec![2, 0, (i % 16) as u8];
+        Case::in_turn(opened, commands, 2 * 2 + n, write, |reader| vec![5, reader, 2])
+    }
+
+    /// Writes of so many steps, each of them then read by the next reader, which takes as many.
+    fn in_turn(
+        opened: Hall,
+        commands: usize,
+        steps: usize,
+        write: impl Fn(usize) -> Vec<u8>,
+        read: impl Fn(u8) -> Vec<u8>,
+    ) -> Case {
+        let readers = opened.lent.format.readers;
+        let mut case = Case::empty(opened);
+        for i in 0..commands.div_ceil(2 * steps + 2) {
+            let reader = (i % readers) as u8;
+            case.push(&write(i));
+            (0..steps).for_each(|_| case.push(&[3]));
+            case.push(&read(reader));
+            (0..steps).for_each(|_| case.push(&[6, reader]));
+        }
+        case
+    }
+
+    fn mixed(readers: usize, most: usize, commands: usize) -> Case {
+        let mut random = Random::new(readers as u64);
+        let format = Format { q: 2, base: 256, n: 16, readers };
+        let lent = random.bytes(16 * 16);
+        let mut case = Case::empty(Hall::open(&[10, 24, 60, 60], format, 0, lent));
+        // A page that follows, to know who is idle: nothing is refused.
+        let mut follower = case.opened.clone();
+        follower.log = vec![0; 10];
+        let mut count = 0;
+        while case.commands() < commands {
+            // The writer has one turn in five, or in two beside a single reader.
+            let who = random.below(readers + readers.div_ceil(4));
+            for _ in 0..random.between(1, most) {
+                let command = match follower.lent.readers.get(who).map(|reader| reader.kind) {
+                    None if follower.lent.writer.kind != 0 => vec![3],
+                    None if random.one_in(2) => vec![2, 0, random.below(16) as u8],
+                    None => {
+                        count += 1;
+                        count_write(count)
+                    }
+                    Some(0) if random.one_in(2) => vec![4, who as u8],
+                    Some(0) => vec![5, who as u8, 3],
+                    Some(_) => vec![6, who as u8],
+                };
+                follower.written = 0;
+                assert_eq!(follower.plain(&command).1, 0);
+                case.push(&command);
+            }
+        }
+        case
     }
 
     /// The schedule in runs of so many commands, from the opened page: nanoseconds a command, and what it leaves.
-    fn timed(&self, each: usize, mut run: impl FnMut(&mut Hall, &[u8]) -> (Answer, u8)) -> (f64, Hall) {
+    fn timed(&self, each: usize, depth: usize, run: impl Fn(&mut Hall, &[u8]) -> (Answer, u8)) -> (f64, Hall) {
         let mut hall = self.opened.clone();
+        let run_at = |at: usize| &self.bytes[self.begins[at]..self.begins[(at + each).min(self.commands())]];
+        let runs: Vec<&[u8]> = (0..self.commands()).step_by(each).map(run_at).collect();
+        let mut done = 0;
         let start = Instant::now();
-        for at in (0..self.commands()).step_by(each) {
-            let end = (at + each).min(self.commands());
-            let (answer, ending) = run(&mut hall, &self.bytes[self.begins[at]..self.begins[end]]);
-            assert_eq!((answer.done, ending), (end - at, 0), "{}: refused", self.name);
-        }
-        (start.elapsed().as_nanos() as f64 / self.commands() as f64, hall)
-    }
-
-    /// The least nanoseconds a command of both, plain first.
-    fn measured(&self, each: usize) -> (f64, f64) {
-        let mut least = (f64::MAX, f64::MAX);
-        let start = Instant::now();
-        let mut turns = 0;
-        while turns < TURNS || start.elapsed() < TIME {
-            turns += 1;
-            let (ours, left) = self.timed(each, Hall::plain);
-            let (theirs, left_by_archive) = self.timed(each, Hall::archive);
-            if left != left_by_archive {
-                println!("{}, runs of {each}: different bytes are left", self.name);
-                exit(1);
+        deeper(depth, &mut || {
+            for commands in &runs {
+                let (answer, ending) = run(&mut hall, commands);
+                done += answer.done;
+                assert_eq!(ending, 0, "{}: refused", self.name);
             }
-            least = (least.0.min(ours), least.1.min(theirs));
+        });
+        let time = start.elapsed().as_nanos() as f64 / self.commands() as f64;
+        assert_eq!(done, self.commands());
+        (time, hall)
+    }
+
+    /// One turn of both in runs of so many commands: nanoseconds a command of plain and of the archive.
+    fn turn(&self, each: usize, depth: usize) -> [f64; 2] {
+        let (plain, left) = self.timed(each, depth, Hall::plain);
+        let (archive, left_by_archive) = self.timed(each, depth, Hall::archive);
+        if left != left_by_archive {
+            println!("{}, runs of {each}: different bytes are left", self.name);
+            exit(1);
         }
-        least
+        [plain, archive]
     }
 }
 
-/// One count after the other, written and then read by one reader.
-fn counts(name: &'static str, m: usize, commands: usize) -> Case {
-    let format = Format { q: 1, base: 2, n: 1, readers: 1 };
-    // Large counts, so that each digit takes part.
-    let first = (1u64 << (8 * m - 1)) + 1;
-    let mut case = Case::new(name, Hall::open(&vec![256; m], format, first, vec![0]));
-    let mut count = first;
-    while case.commands() < commands {
-        count += 1;
-        let mut write = vec![1];
-        write.extend_from_slice(&count.to_be_bytes());
-        case.push(&write);
-        case.push_times(2 * m, &[3]);
-        case.push(&[4, 0]);
-        case.push_times(2 * m, &[6, 0]);
+/// Calls from so many frames further down the stack. A load waits for a store that lies a multiple of 4096 bytes from
+/// it, so that with one place of the stack beside what is lent a side may have bad luck throughout.
+#[inline(never)]
+fn deeper(frames: usize, call: &mut dyn FnMut()) {
+    match frames {
+        0 => call(),
+        _ => deeper(black_box(frames - 1), call),
     }
-    case.finish(commands)
+    black_box(frames);
 }
 
-/// One record after the other, written and then read by one reader.
-fn records(name: &'static str, n: usize, commands: usize) -> Case {
-    let format = Format { q: 2, base: 256, n, readers: 1 };
-    let lent = Random::new(n as u64).bytes(16 * n);
-    let mut case = Case::new(name, Hall::open(&[10], format, 0, lent));
-    for index in (0..16).cycle() {
-        if case.commands() >= commands {
-            break;
-        }
-        case.push(&[2, 0, index]);
-        case.push_times(2 * 2 + n, &[3]);
-        case.push(&[5, 0, 2]);
-        case.push_times(2 * 2 + n, &[6, 0]);
+/// The least times of all who take turns.
+fn least(mut turn: impl FnMut(usize) -> [f64; 2]) -> [f64; 2] {
+    let mut least = [f64::MAX; 2];
+    let start = Instant::now();
+    let mut turns = 0;
+    while turns < TURNS || start.elapsed() < TIME {
+        turns += 1;
+        let times = turn(turns % TURNS);
+        least = [least[0].min(times[0]), least[1].min(times[1])];
     }
-    case.finish(commands)
+    least
 }
 
-/// Sixteen readers of counts and records in random turns with a writer of both; each takes a few steps at a time.
-fn mixed(name: &'static str, commands: usize) -> Case {
-    let mut random = Random::new(16);
-    let format = Format { q: 2, base: 256, n: 16, readers: 16 };
-    let lent = random.bytes(16 * 16);
-    let mut case = Case::new(name, Hall::open(&[10, 24, 60, 60], format, 0, lent));
-    // A page that follows, to know who is idle.
-    let mut follower = case.opened.clone();
-    follower.log = vec![0; 10];
-    let mut count = 0u64;
-    while case.commands() < commands {
-        let who = random.below(20);
-        for _ in 0..random.between(1, 6) {
-            let command = if who >= 16 {
-                match follower.lent.writer.kind {
-                    0 if random.one_in(2) => {
-                        count += 1;
-                        let mut write = vec![1];
-                        write.extend_from_slice(&count.to_be_bytes());
-                        write
-                    }
-                    0 => vec![2, 0, random.below(16) as u8],
-                    _ => vec![3],
-                }
-            } else {
-                match follower.lent.readers[who].kind {
-                    0 if random.one_in(2) => vec![4, who as u8],
-                    0 => vec![5, who as u8, 3],
-                    _ => vec![6, who as u8],
-                }
-            };
-            follower.written = 0;
-            assert_eq!(follower.plain(&command).1, 0);
-            case.push(&command);
+fn count_write(count: u64) -> Vec<u8> {
+    [&[1][..], &count.to_be_bytes()].concat()
+}
+
+/// The least times, and between what the archive's time divided by plain's lay.
+struct Cell {
+    plain: f64,
+    archive: f64,
+    least: f64,
+    greatest: f64,
+}
+
+impl Cell {
+    fn measured(case: &Case, each: usize) -> Cell {
+        let [plain, archive] = least(|depth| case.turn(each, depth));
+        let ratio = archive / plain;
+        Cell { plain, archive, least: ratio, greatest: ratio }
+    }
+
+    fn and(self, other: Cell) -> Cell {
+        Cell {
+            plain: self.plain.min(other.plain),
+            archive: self.archive.min(other.archive),
+            least: self.least.min(other.least),
+            greatest: self.greatest.max(other.greatest),
         }
     }
-    case.finish(commands)
 }
 
-fn all(commands: usize) -> Vec<Case> {
-    vec![
-        counts("count writes and reads, m = 2", 2, commands),
-        counts("count writes and reads, m = 8", 8, commands),
-        records("record writes and reads, n = 2", 2, commands),
-        records("record writes and reads, n = 256", 256, commands),
-        mixed("16 readers, counts and records mixed", commands),
-    ]
+impl fmt::Display for Cell {
+    fn fmt(&self, f: &mut fmt::Formatter) -> fmt::Result {
+        let Cell { plain, archive, least, greatest } = self;
+        write!(f, "{plain:.1}, {archive:.1}, {least:.2}")?;
+        if least < greatest {
+            write!(f, " to {greatest:.2}")?;
+        }
+        Ok(())
+    }
 }
 
-fn main() {
+fn cases(commands: usize) -> Vec<Case> {
+    ROWS.iter().map(|row| Case::new(row, commands)).collect()
+}
+
+fn print_table(repeat: usize) {
+    let cases = cases(COMMANDS);
+    let measured = || cases.iter().flat_map(|case| RUNS.map(|each| Cell::measured(case, each)));
+    let mut table: Vec<Cell> = measured().collect();
+    for _ in 1..repeat {
+        table = table.into_iter().zip(measured()).map(|(cell, again)| cell.and(again)).collect();
+    }
     println!("Nanoseconds a command: plain, the archive, and its time divided by plain's.\n");
     println!("| commands | runs of 1 | of 100 | of {COMMANDS} |");
     println!("|---|---|---|---|");
-    for case in all(COMMANDS) {
-        let cells = [1, 100, COMMANDS].map(|each| {
-            let (plain, archive) = case.measured(each);
-            format!("{plain:.1}, {archive:.1}, {:.2}", archive / plain)
-        });
-        println!("| {} | {} |", case.name, cells.join(" | "));
+    for (case, row) in cases.iter().zip(table.chunks(RUNS.len())) {
+        println!("| {} | {} |", case.name, row.iter().map(Cell::to_string).collect::<Vec<_>>().join(" | "));
     }
     println!("\nBoth left the same page, states, buffers and log, byte for byte, after every turn.\n");
+}
 
+/// Tells whether the cost is linear in the commands.
+fn print_growth() -> bool {
     println!("One run of so many commands, nanoseconds a command of the archive:\n");
     println!("| commands | {} | {} | growth |", COMMANDS, 4 * COMMANDS);
     println!("|---|---|---|---|");
     let mut linear = true;
-    for (short, long) in all(COMMANDS).into_iter().zip(all(4 * COMMANDS)) {
-        let (_, short_time) = short.measured(COMMANDS);
-        let (_, long_time) = long.measured(4 * COMMANDS);
+    for (short, long) in cases(COMMANDS).iter().zip(cases(4 * COMMANDS)) {
+        let [short_time, long_time] =
+            least(|depth| [short.turn(COMMANDS, depth)[1], long.turn(4 * COMMANDS, depth)[1]]);
         let growth = long_time / short_time;
         linear &= growth < MOST_GROWTH;
         println!("| {} | {short_time:.1} | {long_time:.1} | {growth:.2} |", short.name);
     }
-    println!(
-        "\n{}",
-        if linear { "The cost is linear in the commands." } else { "The cost is NOT linear in the commands." }
-    );
-    exit(if linear { 0 } else { 1 });
+    println!("\nThe cost is {} in the commands.", if linear { "linear" } else { "NOT linear" });
+    linear
+}
+
+fn main() {
+    let arguments: Vec<String> = env::args().skip(1).collect();
+    let arguments: Vec<&str> = arguments.iter().map(String::as_str).collect();
+    let repeat = match arguments[..] {
+        [] => Some(1),
+        ["--repeat", times] => times.parse().ok().filter(|&times| times > 0),
+        _ => None,
+    };
+    let Some(repeat) = repeat else {
+        eprintln!("usage: bench [--repeat N]");
+        exit(2)
+    };
+    print_table(repeat);
+    exit(if print_growth() { 0 } else { 1 });
 }
