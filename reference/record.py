@@ -1,8 +1,9 @@
 #!/usr/bin/env python3
-"""Write the recorded cases `crates/cases/data/NNN.in` and `NNN.out`, inputs of `runlist` and what it must print, computed with
-the reference, and `INDEX.txt` beside them, a line for each: number, name, reason, bytes of input, last line of output. The
-hand-made cases stand in the table below, each with the reason why it is there; generated ones of every kind follow. The
-files come out the same each time; `--check` writes nothing, compares, and exits with 1 on a difference."""
+"""Write the recorded cases, inputs of `runlist` and what it must print, computed with the reference, into
+`crates/cases/data/cases.bin`, and `INDEX.txt` beside it, a line for each: number, name, reason, bytes of input, last line of
+output. The hand-made cases stand in the table below, each with the reason why it is there; generated ones of every kind
+follow. The files come out the same each time; `--check` writes nothing, compares, and exits with 1 on a difference;
+`--case NUMBER` writes the input of one case to standard output."""
 
 import sys
 from pathlib import Path
@@ -13,6 +14,7 @@ from runlist import MOST_INPUT, printed
 
 FOLDER = Path(__file__).resolve().parent.parent / "crates" / "cases" / "data"
 MOST_CASES, MOST_BYTES = 260, 1200000
+MOST_TEXT = 131071  # one less than the array that `cases` reads an input or an output into
 FIRST_SEED = 1000
 OF_EACH_KIND = 5
 
@@ -43,6 +45,11 @@ def most_output():
     """Record reads that print the longest lines for their length, up to the longest input."""
     head = header([2], 1, 256, 1, 16, 0, b"a", [b"z"]) + (write_record(0) + WRITER * 3) * 255
     return head + (read_record(15, 1) + step(15) * 3) * ((MOST_INPUT - len(head)) // 9)
+
+
+def longest_stock():
+    """The longest input, nearly all of it lent records; the last of these is written."""
+    return header(n=256, records=[b"\x5a" * 256] * 254) + write_record(253) + WRITER * 234
 
 
 def torn_attempts(count):
@@ -127,8 +134,8 @@ HAND_MADE = [
     ("too-long", "65,537 bytes", 2, long_reads(2, 15) + WRITER),
     ("too-long-m-0", "65,537 bytes are found before a bad m", 2, bytes(MOST_INPUT + 1)),
     ("longest-m-0", "65,536 bytes with a bad m", 1, bytes(MOST_INPUT)),
-    ("longest-stock", "lent records up to the end of the longest input, and the last is written", 0,
-     header(n=256, records=[b"\x5a" * 256] * 254) + write_record(253) + WRITER * 234),
+    ("longest-stock", "lent records up to the end of the longest input, and the last is written", 0, longest_stock()),
+    ("longest-but-one", "65,535 bytes, all carried out", 0, longest_stock()[:-1]),
     ("most-output", "the longest output for its input", 0, most_output()),
 
     # The starred edges, and what stands near them.
@@ -279,44 +286,50 @@ def generated():
         seed += 1
 
 
+def cases():
+    return HAND_MADE + list(generated())
+
+
+def four(number):
+    """A number as `cases.bin` has it."""
+    return number.to_bytes(4, "big")
+
+
 def files():
-    """All files to be written, by name."""
-    result, index = {}, []
-    for number, (name, reason, refusal, data) in enumerate(HAND_MADE + list(generated())):
-        output = printed(data)
-        assert refusal is None or output.endswith(" %d\n" % refusal), name
-        result["%03d.in" % number], result["%03d.out" % number] = data, output.encode()
-        last = output.split("\n")[-2]
+    """The number of cases, and the files to be written, by name."""
+    packed, index = [], []
+    for number, (name, reason, refusal, data) in enumerate(cases()):
+        output = printed(data).encode()
+        assert refusal is None or output.endswith(b" %d\n" % refusal), name
+        assert max(len(data), len(output)) <= MOST_TEXT, name
+        packed += [four(len(data)), data, four(len(output)), output]
+        last = output.decode().split("\n")[-2]
         index.append("%03d | %-24s | %s | %d | %s\n" % (number, name, reason, len(data), last))
     names = [line.split(" | ")[1] for line in index]
     assert len(set(names)) == len(names) <= MOST_CASES, "names or number of cases"
-    result["INDEX.txt"] = "".join(index).encode()
+    result = {"cases.bin": four(len(names)) + b"".join(packed), "INDEX.txt": "".join(index).encode()}
     assert sum(map(len, result.values())) <= MOST_BYTES, "the data grew too large"
-    return result
-
-
-def recorded():
-    """The files that are there."""
-    return sorted(list(FOLDER.glob("*.in")) + list(FOLDER.glob("*.out")) + list(FOLDER.glob("INDEX.txt")))
+    return len(names), result
 
 
 def main(arguments):
-    wanted = files()
+    if len(arguments) == 2 and arguments[0] == "--case":
+        sys.stdout.buffer.write(cases()[int(arguments[1])][3])
+        return 0
+    count, wanted = files()
     if arguments == ["--check"]:
-        there = {path.name: path.read_bytes() for path in recorded()}
+        there = {path.name: path.read_bytes() for path in FOLDER.iterdir()}
         wrong = sorted(name for name in set(wanted) | set(there) if wanted.get(name) != there.get(name))
         for name in wrong:
             print("%s differs from what is made now" % name)
-        print("%d recorded cases, %d of %d files differ" % (len(wanted) // 2, len(wrong), len(wanted)))
+        print("%d recorded cases, %d of %d files differ" % (count, len(wrong), len(wanted)))
         return 1 if wrong else 0
     if arguments:
-        sys.exit("usage: record.py [--check]")
+        sys.exit("usage: record.py [--check | --case NUMBER]")
     FOLDER.mkdir(parents=True, exist_ok=True)
-    for path in recorded():
-        path.unlink()  # some may be of cases that are no longer in the table
     for name, data in wanted.items():
         (FOLDER / name).write_bytes(data)
-    print("%d recorded cases, %d bytes" % (len(wanted) // 2, sum(map(len, wanted.values()))))
+    print("%d recorded cases, %d bytes" % (count, sum(map(len, wanted.values()))))
     return 0
 
 

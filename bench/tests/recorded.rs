@@ -4,17 +4,26 @@ use std::path::Path;
 
 use lagumtay_bench::runlist::printed;
 
+/// The bytes behind a length of four bytes; what is left stays in `bytes`.
+fn part<'a>(bytes: &mut &'a [u8]) -> &'a [u8] {
+    let (length, rest) = bytes.split_first_chunk().expect("a length");
+    let (part, rest) = rest.split_at(u32::from_be_bytes(*length) as usize);
+    *bytes = rest;
+    part
+}
+
+/// The file's layout: reference/README.md.
 #[test]
 fn prints_the_recorded_runs() {
-    let data = Path::new(env!("CARGO_MANIFEST_DIR")).join("../crates/cases/data");
-    let mut compared = 0;
-    for entry in fs::read_dir(data).unwrap() {
-        let path = entry.unwrap().path();
-        if path.extension().is_some_and(|extension| extension == "in") {
-            let expected = fs::read_to_string(path.with_extension("out")).unwrap();
-            assert_eq!(printed(&fs::read(&path).unwrap()), expected, "{}", path.display());
-            compared += 1;
-        }
+    let file = Path::new(env!("CARGO_MANIFEST_DIR")).join("../crates/cases/data/cases.bin");
+    let all = fs::read(file).unwrap();
+    let (cases, mut rest) = all.split_first_chunk().expect("how many cases");
+    let cases = u32::from_be_bytes(*cases);
+    assert!(cases >= 240, "only {cases} recorded runs found");
+    for case in 0..cases {
+        let input = part(&mut rest);
+        let expected = String::from_utf8(part(&mut rest).to_vec()).unwrap();
+        assert_eq!(printed(input), expected, "case {case}");
     }
-    assert!(compared >= 240, "only {compared} recorded runs found");
+    assert!(rest.is_empty(), "{} bytes after the last case", rest.len());
 }

@@ -1,167 +1,108 @@
-// Runs each recorded input through the library of runlist, and compares what is told with what was recorded.
-ghost use Prim.Native.Nat.{_≤_};
+// Puts each recorded input through `printing::print`, as runlist does its standard input, and compares what is printed
+// with what was recorded. All stand in one file (reference/README.md). `print` reads to the end of a file, and whether a
+// byte more follows is part of what is tried: so each input is copied into a file that ends where the input does.
+ghost use Prim.Native.Nat.{_≤_, _<_};
 ghost use lib.ListN.{length};
-use libc::STDOUT_FILENO;
+ghost use Rattle.io.specs.Counts.{Counts};
 
-fn digit(x: usize) -> u8 {
-    48 + (x % 10) as u8
+fn wide(x: u8) -> usize
+    ensures { λ r. ⌜ r < 256 ⌝ }
+{
+    x as usize
 }
 
-// The recorded input k; negative, if there is none.
-fn open_input(k: usize) -> i32 {
-    os::open_read(&[digit(k / 100), digit(k / 10), digit(k), b'.', b'i', b'n'])
+fn at_most(x: usize, most: usize) -> usize
+    ensures { λ r. ⌜ r ≤ most ⌝ }
+{
+    if x < most { x } else { most }
 }
 
-fn open_output(k: usize) -> i32 {
-    os::open_read(
-        &[
-            digit(k / 100),
-            digit(k / 10),
-            digit(k),
-            b'.',
-            b'o',
-            b'u',
-            b't',
-        ],
-    )
+// The number in the next four bytes of the recorded cases, high byte first.
+fn number(recorded: i32) -> usize {
+    let mut b = [0u8; 4];
+    io::read_full(recorded, &mut b);
+    ((wide(b[0]) * 256 + wide(b[1])) * 256 + wide(b[2])) * 256 + wide(b[3])
 }
 
-fn tell_differs(k: usize) {
-    io::write_all(STDOUT_FILENO, &[digit(k / 100), digit(k / 10), digit(k)]);
-    io::write_all(STDOUT_FILENO, b" differs\n");
+// The next input or output, which has its length before it. Answers the length; record.py sees to it that none fills
+// the array.
+fn text(recorded: i32, all: &mut [u8]) -> usize
+    ensures { λ r. ⌜ Counts r (now (all .exit)) ⌝ }
+{
+    let n = at_most(number(recorded), all.len());
+    io::read_full(recorded, &mut all[..n])
 }
 
-// Is there one byte more than what was read?
-fn more_follows(fd: i32) -> bool {
-    let mut one = [0u8; 1];
-    io::read_full(fd, &mut one) == 1
+fn copy_input(recorded: i32) {
+    let mut all = [0u8; 131072];
+    let n = text(recorded, &mut all);
+    let to = os::open_overwrite(b"input");
+    io::write_all(to, &all[..n]);
+    libc::close(to);
+}
+
+fn print() {
+    let from = os::open_read(b"input");
+    let to = os::open_overwrite(b"output");
+    printing::print(from, to);
+    libc::close(from);
+    libc::close(to);
 }
 
 // Does b begin with a?
-fn same_start(a: &[u8], b: &[u8; 640]) -> bool
-    requires { ⌜ length (now a) ≤ 640 ⌝ }
+fn begins(a: &[u8], b: &[u8; 131072]) -> bool
+    requires { ⌜ length (now a) ≤ 131072 ⌝ }
 {
     let mut i: usize = 0;
     while i < a.len() {
         if a[i] != b[i] {
             return false;
         }
-        i = i + 1;
+        i += 1;
     }
     true
 }
 
-// Does the file go on with the text?
-fn goes_on(fd: i32, text: &[u8]) -> bool {
-    let mut got = [0u8; 640];
-    let k = text.len();
-    if 640 < k {
-        return false;
-    }
-    io::read_full(fd, &mut got[..k]) == k && same_start(text, &got)
+// Is the recorded output all that was printed?
+fn same_output(recorded: i32) -> bool {
+    let mut wanted = [0u8; 131072];
+    let n = text(recorded, &mut wanted);
+    let mut printed = [0u8; 131072];
+    let from = os::open_read(b"output");
+    let got = io::read_full(from, &mut printed);
+    libc::close(from);
+    got == n && begins(&wanted[..n], &printed)
 }
 
-// Does the file begin with the lines of the run?
-fn begins(input: &[u8], more: bool, page: &mut [u8], buffers: &mut [u8], output: i32) -> bool {
-    let mut kinds = [0u8; 16];
-    let mut allowed = [0u8; 16];
-    let mut finished = [0u8; 16];
-    let mut steps = [0usize; 16];
-    let mut digits = [0u8; 256];
-    let mut line = [0u8; 640];
-    let s = report::start(
-        input,
-        more,
-        page,
-        page::resting(),
-        &mut kinds,
-        &mut allowed,
-        &mut finished,
-        &mut steps,
-        &mut digits,
-        buffers,
-    );
-    let mut p = s.progress;
-    let mut w = s.writer;
-    let mut last = false;
-    let mut same = true;
-    while !last {
-        let t = report::next(
-            input,
-            more,
-            p,
-            page,
-            w,
-            &mut kinds,
-            &mut allowed,
-            &mut finished,
-            &mut steps,
-            &mut digits,
-            buffers,
-            &mut line,
-        );
-        let k = t.written;
-        same = same & goes_on(output, &line[..k]);
-        p = t.progress;
-        w = t.writer;
-        last = t.last;
+// How many of the next one hold.
+fn tried(recorded: i32, k: usize) -> usize
+    ensures { λ r. ⌜ r ≤ 1 ⌝ }
+{
+    copy_input(recorded);
+    print();
+    if same_output(recorded) {
+        return 1;
     }
-    same
-}
-
-// Is the run of the input, as runlist makes it, all that the output holds?
-fn is_recorded(fd: i32, output: i32) -> bool {
-    let mut input = [0u8; 65536];
-    let got = io::read_full(fd, &mut input);
-    let more = got == 65536 && more_follows(fd);
-    let s = report::room(&input[..got], more);
-    let long = s.page;
-    let wide = s.buffers;
-    let mut page = [0u8; 280];
-    let mut buffers = [0u8; 4096];
-    let same = begins(
-        &input[..got],
-        more,
-        &mut page[..long],
-        &mut buffers[..wide],
-        output,
-    );
-    same && !more_follows(output)
-}
-
-// A missing output differs.
-fn holds(k: usize, fd: i32) -> bool {
-    let output = open_output(k);
-    if output < 0 {
-        return false;
-    }
-    let ok = is_recorded(fd, output);
-    libc::close(output);
-    ok
+    show::number(k as u64);
+    show::say(b" differs\n");
+    0
 }
 
 fn tell_all(good: usize, all: usize) {
-    io::print_decimal(STDOUT_FILENO, good as u64);
-    io::write_all(STDOUT_FILENO, b" of ");
-    io::print_decimal(STDOUT_FILENO, all as u64);
-    io::write_all(STDOUT_FILENO, b" recorded inputs print what was recorded\n");
+    show::number(good as u64);
+    show::say(b" of");
+    show::word(all as u64);
+    show::say(b" recorded inputs print what was recorded\n");
 }
 
 fn main() {
+    let recorded = os::open_read(b"cases.bin");
+    let all = number(recorded);
     let mut k: usize = 0;
     let mut good: usize = 0;
-    while k < 1000 {
-        let fd = open_input(k);
-        if fd < 0 {
-            break;
-        }
-        if holds(k, fd) {
-            good = good + 1;
-        } else {
-            tell_differs(k);
-        }
-        libc::close(fd);
-        k = k + 1;
+    while k < all {
+        good += tried(recorded, k);
+        k += 1;
     }
-    tell_all(good, k);
+    tell_all(good, all);
 }

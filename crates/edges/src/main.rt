@@ -1,36 +1,22 @@
-// The page and the printed run at their edges, one line for each call. The expected lines were worked out apart from
-// this code, from document 01.
-mod altered;
-mod cuts;
-mod damage;
-mod input;
-mod opening;
-mod order;
-mod overtaken;
-mod ranges;
-mod room;
+// The page and the printed run at their edges, one line for each call, from tables. The expected lines were worked out
+// apart from this code, from document 01.
+mod fields;
+mod inputs;
+mod lent;
+mod numbers;
+mod openings;
 mod runs;
-mod show;
 mod strange;
+mod table;
 
 fn main() {
-    ranges::places();
-    ranges::bases();
-    ranges::first_counts();
-    ranges::versions();
-    ranges::records();
-    order::writer_busy();
-    order::writer_idle();
-    order::readers();
-    order::crossed();
-    order::start();
-    room::count_shown();
-    room::accepted();
-    room::unequal();
-    overtaken::logged();
+    openings::ranges();
+    runs::order();
+    runs::room();
+    runs::overtaken();
     strange::page_and_writer();
     strange::readers();
-    cuts::short();
-    cuts::headers();
-    cuts::longest();
+    inputs::short();
+    inputs::headers();
+    inputs::longest();
 }

@@ -1,184 +1,68 @@
 // Runs on a small page: three places of base 10 opened at 99, one version place of base 2, the record `aa`, and the
-// records `bb` and `cc` to be written.
-ghost use Prim.Native.Nat.{_≤_};
-ghost use lib.ListN.{length};
-use crate::damage;
-use crate::damage::Damage;
-use crate::show;
-use page::Ran;
-use protocol::Format;
-use protocol::Writer;
-use radix::Count;
+// records `bb` and `cc` to be written. Two readers, of which the second is the strange one.
+use crate::table;
 
-// Commands carried out, bytes written and the refusal; then the log and the readers' buffers as the run left them.
-fn told(r: Ran, log: &[u8; 24], room: usize, buffers: &[u8; 4])
-    requires { ⌜ room ≤ 24 ⌝ }
-{
-    show::word(r.done as u64);
-    show::word(r.written as u64);
-    let e = r.ending;
-    show::ending(e);
-    show::say(b", log");
-    show::bytes(log, room);
-    show::say(b", buffers");
-    show::bytes(buffers, 4);
-    show::say(b"\n");
+fn each(rows: &[u8]) {
+    table::each(b"10 10 10, q 1, base 2, n 2, readers 2, at 99", rows, 1);
 }
 
-// One run, and its line. Answers the writer as the run leaves it.
-fn carry_out(
-    d: Damage,
-    page: &mut [u8],
-    w: Writer,
-    kinds: &mut [u8; 16],
-    allowed: &mut [u8; 16],
-    finished: &mut [u8; 16],
-    steps: &mut [usize; 16],
-    digits: &mut [u8; 256],
-    buffers: &mut [u8; 4],
-    commands: &[u8],
-    room: usize,
-) -> Writer
-    requires { ⌜ (10 ≤ length (now page)) × (room ≤ 24) ⌝ }
-{
-    let mut log = [7u8; 24];
-    let t = damage::found(d);
-    let long = t.long;
-    let r = page::run(
-        Format {
-            q: 1,
-            base: t.base,
-            n: 2,
-            readers: 2,
-        },
-        &[10, 10, 10],
-        &mut page[..long],
-        w,
-        2,
-        kinds,
-        allowed,
-        finished,
-        steps,
-        digits,
-        buffers,
-        b"bbcc",
-        commands,
-        &mut log[..room],
-    );
-    told(r, &log, room, buffers);
-    r.writer
-}
-
-// Opens the page and does the damage. Answers the writer as the opening leaves it.
-fn prepare(
-    d: Damage,
-    page: &mut [u8],
-    kinds: &mut [u8; 16],
-    allowed: &mut [u8; 16],
-    finished: &mut [u8; 16],
-    steps: &mut [usize; 16],
-    digits: &mut [u8; 256],
-    buffers: &mut [u8; 4],
-) -> Writer
-    requires { ⌜ 10 ≤ length (now page) ⌝ }
-{
-    let o = page::open(
-        Format {
-            q: 1,
-            base: 2,
-            n: 2,
-            readers: 2,
-        },
-        &[10, 10, 10],
-        page,
-        page::resting(),
-        2,
-        kinds,
-        allowed,
-        finished,
-        steps,
-        digits,
-        buffers,
-        Count(99),
-        b"aa",
-    );
-    let t = damage::found(d);
-    page[0] = t.digit;
-    kinds[1] = t.kind;
-    o.writer
-}
-
-// Two runs with room for so many bytes in their logs, of which the second takes up what the first left; only the first,
-// if the second has no commands.
-pub(crate) fn twice(
-    name: &[u8],
-    d: Damage,
-    first: &[u8],
-    room: usize,
-    second: &[u8],
-    later_room: usize,
-)
-    requires { ⌜ (room ≤ 24) × («later_room» ≤ 24) ⌝ }
-{
-    let mut page = [0u8; 10];
-    let mut kinds = [0u8; 16];
-    let mut allowed = [0u8; 16];
-    let mut finished = [0u8; 16];
-    let mut steps = [0usize; 16];
-    let mut digits = [0u8; 256];
-    let mut buffers = [0u8; 4];
-    show::say(name);
-    show::say(b":");
-    let w = prepare(
-        d,
-        &mut page,
-        &mut kinds,
-        &mut allowed,
-        &mut finished,
-        &mut steps,
-        &mut digits,
-        &mut buffers,
-    );
-    let v = carry_out(
-        d,
-        &mut page,
-        w,
-        &mut kinds,
-        &mut allowed,
-        &mut finished,
-        &mut steps,
-        &mut digits,
-        &mut buffers,
-        first,
-        room,
-    );
-    if second.len() == 0 {
-        return;
-    }
-    show::say(b"  then:");
-    carry_out(
-        d,
-        &mut page,
-        v,
-        &mut kinds,
-        &mut allowed,
-        &mut finished,
-        &mut steps,
-        &mut digits,
-        &mut buffers,
-        second,
-        later_room,
+// Which refusal is given where two apply; and some of them alone. For a busy writer: a count above the top, a count below
+// the second copy, an index beyond the last record, versions spent. A read of crossed copies can be cancelled. Last,
+// refusals 1 to 3, before any command: a version base of 1, a page without its last byte, a digit at its base.
+pub(crate) fn order() {
+    each(
+        b"\
+        too large a count, busy:|r 1 0 0 0 0 0 0 0 150 1 0 0 0 0 0 0 3 232\n\
+        a count going back, busy:|r 1 0 0 0 0 0 0 0 150 1 0 0 0 0 0 0 0 98\n\
+        no such record, busy:|r 1 0 0 0 0 0 0 0 150 2 0 2\n\
+        versions spent, busy:|r 2 0 0 3 3 3 3 1 0 0 0 0 0 0 0 150 2 0 1\n\
+        too large a count:|r 1 0 0 0 0 0 0 3 232\n\
+        a count going back:|r 1 0 0 0 0 0 0 0 98\n\
+        versions spent:|r 2 0 0 3 3 3 3 2 0 1\n\
+        no attempts, busy:|r 4 0 5 0 0\n\
+        one attempt, busy:|r 4 0 5 0 1\n\
+        no such reader, cut:|r 5 2\n\
+        a step of no such reader:|r 6 2\n\
+        a step of no read:|r 6 1\n\
+        crossed copies, no room:|p 0 1;r 4 0 6 0 6 0 6 0 6 0 6 0 6 0\n\
+        \x20 then:+r 7 0 7 0\n\
+        a bad form, a short page:|B 1;L 9;r 3\n\
+        a short page, a strange digit:|L 9;p 0 10;r 3\n\
+        a strange digit:|p 0 10;r 3\n\
+        a strange reader, an unknown command:|k 3;l 2;r 0\n\
+        a strange reader, no command:|k 3;l 2;r\n\
+        no command:|l 2;r\n\
+        ",
     );
 }
 
-// One run.
-pub(crate) fn once(name: &[u8], d: Damage, commands: &[u8], room: usize)
-    requires { ⌜ room ≤ 24 ⌝ }
-{
-    twice(name, d, commands, room, &[0; 0], 0);
+// What the log has room for: a byte too few, and in the later run no byte too many. An entry has ten bytes for a count
+// shown, seven for a record accepted, three for giving up, none if an attempt is left. A step that was refused reads its
+// digit anew in the later run.
+pub(crate) fn room() {
+    each(
+        b"\
+        a count shown, room for 9:|l 9;r 4 0 6 0 6 0 6 0 6 0 6 0 6 0\n\
+        \x20 then:+l 10;r 6 0\n\
+        a count shown, written over before the later run:|r 4 0 6 0 6 0 6 0 6 0 6 0 6 0\n\
+        \x20 then:+l 11;r 1 0 0 0 0 0 0 0 150 3 3 3 3 3 3 6 0\n\
+        a record accepted, room for 6:|l 6;r 5 1 1 6 1 6 1 6 1 6 1\n\
+        \x20 then:+l 7;r 6 1\n\
+        given up, room for 2:|l 2;r 5 0 1 2 0 0 6 0 6 0 6 0 3 6 0\n\
+        \x20 then:+l 3;r 6 0\n\
+        not the last attempt, no room:|r 5 0 2 2 0 0 6 0 6 0 6 0 3 6 0\n\
+        \x20 then:+l 7;r 3 3 3 6 0 6 0 6 0 6 0\n\
+        ",
+    );
 }
 
-// One run of a sound page with no room.
-pub(crate) fn plain(name: &[u8], commands: &[u8]) {
-    once(name, Damage::Nothing, commands, 0);
+// Document 01's trap: reader 0 has gathered 099, a write of 150 is carried out, reader 1 shows 150, then reader 0 shows
+// 100.
+pub(crate) fn overtaken() {
+    each(
+        b"\
+        099 gathered by reader 0, 150 written:|r 4 0 6 0 6 0 6 0 1 0 0 0 0 0 0 0 150 3 3 3 3 3 3\n\
+        \x20 then:+l 21;r 4 1 6 1 6 1 6 1 6 1 6 1 6 1 6 0 6 0 6 0\n\
+        ",
+    );
 }

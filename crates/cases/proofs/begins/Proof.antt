@@ -1,74 +1,39 @@
--- Each turn that is not the last goes forward in the input.
+-- The loop ends: i grows to the end of a.
 use borrow.Author.Needs.{needs}
-use borrow.Author.Tests.{not-true}
-use mathlib.Core.Path.{_≡_, sym}
-use mathlib.Core.Bool.{cond}
-use Prim.Native.Nat.{suc, _-_}
+use Prim.Native.Nat.{_≤_, _-_}
 use lib.ListN.{length}
-use lib.Seq.{length-take-le}
-use Rattle.report.proofs.Turns.Falls.{falls}
 use Rattle.cases.proofs.begins.Statement.{statement}
 use Rattle.cases.proofs.begins.Tie as tie
 
 abbrev Inv-loop : tie.InvT-loop
-Inv-loop input more page₀ buffers₀ output kinds₀ allowed₀ finished₀ steps₀ digits₀ line₀ p₀ w₀ last₀ same₀
-    page buffers kinds allowed finished steps digits line p w last same =
-    (length page ≡ length page₀) × (length buffers ≡ length buffers₀)
+Inv-loop a b i₀ i = i ≤ length a
 
 abbrev μ-loop : tie.MeasureT-loop
-μ-loop input more page₀ buffers₀ output kinds₀ allowed₀ finished₀ steps₀ digits₀ line₀ p₀ w₀ last₀ same₀
-    page buffers kinds allowed finished steps digits line p w last same =
-    cond last 0 (suc (length input - p .at))
-
-resting-requires : tie.Need-resting-requires Inv-loop μ-loop
-resting-requires c κs = search needs
-
-start-requires : tie.Need-start-requires Inv-loop μ-loop
-start-requires c κs = search needs
+μ-loop a b i₀ i = length a - i
 
 loop-holds : tie.Need-loop-holds Inv-loop μ-loop
 loop-holds c = search needs
 
-next-requires : tie.Need-next-requires Inv-loop μ-loop
-next-requires c κs = search needs
+shared-slice-read-if1 : tie.Need-shared-slice-read-if1 Inv-loop μ-loop
+shared-slice-read-if1 c = search needs
 
-array-share-prefix-line : tie.Need-array-share-prefix-line Inv-loop μ-loop
-array-share-prefix-line c = search needs
+element-copy-out-if1 : tie.Need-element-copy-out-if1 Inv-loop μ-loop
+element-copy-out-if1 c = search needs
 
-slice-aggregate-goes-on : tie.Need-slice-aggregate-goes-on Inv-loop μ-loop
-slice-aggregate-goes-on c = sym (length-take-le _ _ (array-share-prefix-line (c .before)))
+returns : tie.Need-returns Inv-loop μ-loop
+returns c = search needs
 
-goes-on-requires : tie.Need-goes-on-requires Inv-loop μ-loop
-goes-on-requires c κs = search needs
-
--- a turn's beginning and the entry
-abbrev in-loop : tie.After-next Inv-loop μ-loop → tie.In-loop Inv-loop μ-loop
-in-loop c = c .before .before .before .before .before .before .before .before .before
-
-abbrev start-of : tie.At-loop Inv-loop μ-loop → tie.Start Inv-loop μ-loop
-start-of c =
-    c .before .before .before .before .before .before .before .before .before .before .before .before .before .before
-    .before .before .before .before .before
+add-i : tie.Need-add-i Inv-loop μ-loop
+add-i c = search needs
 
 loop-less : tie.Need-loop-less Inv-loop μ-loop
-loop-less c =
-    let n = c .before .before .before .before .before .before .before .before in
-    let i = in-loop n in
-    let l = i .before .loop in
-    falls (length (start-of (i .before) .args .input .now)) (l .p .at) (n .next .result .progress .at) (l .last)
-    (n .next .result .last) (not-true _ (i .loop-test .taken)) (n .next .ensures .1 .0)
+loop-less c = search needs
 
 loop-again : tie.Need-loop-again Inv-loop μ-loop
 loop-again c = search needs
 
-same-length : tie.Need-same-length Inv-loop μ-loop
-same-length c = search needs
-
-same-length-2 : tie.Need-same-length-2 Inv-loop μ-loop
-same-length-2 c = search needs
-
-returns : tie.Need-returns Inv-loop μ-loop
-returns c = search needs
+returns-2 : tie.Need-returns-2 Inv-loop μ-loop
+returns-2 c = search needs
 
 pub begins-spec : {M : Type 1} → statement M
 begins-spec =
@@ -76,15 +41,11 @@ begins-spec =
     (tie.spec
     Inv-loop
     μ-loop
-    resting-requires
-    start-requires
     loop-holds
-    next-requires
-    array-share-prefix-line
-    slice-aggregate-goes-on
-    goes-on-requires
+    shared-slice-read-if1
+    element-copy-out-if1
+    returns
+    add-i
     loop-less
     loop-again
-    same-length
-    same-length-2
-    returns)
+    returns-2)

@@ -1,34 +1,32 @@
--- The loop ends: k grows to 1000.
+-- The loop ends: k grows to the number of all.
 use borrow.Author.Needs.{needs}
-use mathlib.Core.Logic.{⊎-elim}
 use Prim.Native.Nat.{_≤_, _-_}
-use native.Mathlib.Omega.{arith}
 use Rattle.cases.proofs.main.Statement.{statement}
 use Rattle.cases.proofs.main.Tie as tie
 
 abbrev Inv-loop : tie.InvT-loop
-Inv-loop k₀ good₀ k good = (good ≤ k) × (k ≤ 1000)
+Inv-loop recorded all k₀ good₀ k good = (good ≤ k) × (k ≤ all)
 
 abbrev μ-loop : tie.MeasureT-loop
-μ-loop k₀ good₀ k good = 1000 - k
+μ-loop recorded all k₀ good₀ k good = all - k
+
+slice-aggregate-open-read : tie.Need-slice-aggregate-open-read Inv-loop μ-loop
+slice-aggregate-open-read c = search needs
+
+open-read-requires : tie.Need-open-read-requires Inv-loop μ-loop
+open-read-requires c κs = search needs
+
+number-requires : tie.Need-number-requires Inv-loop μ-loop
+number-requires c κs = search needs
 
 loop-holds : tie.Need-loop-holds Inv-loop μ-loop
 loop-holds c = search needs
 
-open-input-requires : tie.Need-open-input-requires Inv-loop μ-loop
-open-input-requires c κs = search needs
-
-holds-requires : tie.Need-holds-requires Inv-loop μ-loop
-holds-requires c κs = search needs
+tried-requires : tie.Need-tried-requires Inv-loop μ-loop
+tried-requires c κs = search needs
 
 add-good : tie.Need-add-good Inv-loop μ-loop
 add-good c = search needs
-
-tell-differs-requires : tie.Need-tell-differs-requires Inv-loop μ-loop
-tell-differs-requires c κs = search needs
-
-close-requires : tie.Need-close-requires Inv-loop μ-loop
-close-requires c κs = search needs
 
 add-k : tie.Need-add-k Inv-loop μ-loop
 add-k c = search needs
@@ -37,7 +35,7 @@ loop-less : tie.Need-loop-less Inv-loop μ-loop
 loop-less c = search needs
 
 loop-again : tie.Need-loop-again Inv-loop μ-loop
-loop-again c = ⊎-elim (λ w. omega arith) (λ w. omega arith) (c .before .if2 .came)
+loop-again c = search needs
 
 tell-all-requires : tie.Need-tell-all-requires Inv-loop μ-loop
 tell-all-requires c κs = search needs
@@ -51,12 +49,12 @@ main-spec =
     (tie.spec
     Inv-loop
     μ-loop
+    slice-aggregate-open-read
+    open-read-requires
+    number-requires
     loop-holds
-    open-input-requires
-    holds-requires
+    tried-requires
     add-good
-    tell-differs-requires
-    close-requires
     add-k
     loop-less
     loop-again

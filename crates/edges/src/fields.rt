@@ -1,0 +1,65 @@
+// One part of what is lent, set by hand.
+use crate::lent::Lent;
+use crate::lent::at_most;
+use protocol::Writer;
+use radix::Count;
+use radix::Version;
+
+fn low(x: u64) -> u8 {
+    (x % 256) as u8
+}
+
+// A byte of the page; of reader k its kind, attempts allowed and finished, steps, and one of its sixteen digits.
+fn page_or_reader(l: Lent, field: u8, reader: usize, index: usize, x: u64) -> Lent {
+    let mut v = l;
+    let k = at_most(reader, 15);
+    let place = at_most(index, 15);
+    match field {
+        b'p' => v.page[place] = low(x),
+        b'k' => v.kinds[k] = low(x),
+        b'a' => v.allowed[k] = low(x),
+        b'f' => v.finished[k] = low(x),
+        b's' => v.steps[k] = x as usize,
+        b'd' => v.digits[16 * k + place] = low(x),
+        _ => {}
+    }
+    v
+}
+
+// The writer's kind, count, version, index or steps.
+fn writer(w: Writer, field: u8, x: u64) -> Writer {
+    let mut v = w;
+    let count = Count(x);
+    let version = Version((x % 256) as u32);
+    match field {
+        b'K' => v.kind = (x % 256) as u32,
+        b'C' => v.count = count,
+        b'V' => v.version = version,
+        b'I' => v.index = x as usize,
+        b'S' => v.steps = x as usize,
+        _ => {}
+    }
+    v
+}
+
+// The version base, the page's length, the bytes of records, the log's room.
+fn number(l: Lent, field: u8, x: u64) -> Lent {
+    let mut v = l;
+    let mut f = l.format;
+    f.base = (x % 65536) as u16;
+    match field {
+        b'B' => v.format = f,
+        b'L' => v.long = x as usize,
+        b'R' => v.records = x as usize,
+        b'l' => v.room = x as usize,
+        _ => {}
+    }
+    v
+}
+
+pub(crate) fn set(l: Lent, field: u8, k: usize, place: usize, x: u64) -> Lent {
+    let mut v = page_or_reader(l, field, k, place, x);
+    let w = writer(l.writer, field, x);
+    v.writer = w;
+    number(v, field, x)
+}
