@@ -51,11 +51,36 @@ typedef struct {
     uint8_t digits[16];
 } lagumtay_reader;
 
-/* What a run tells beside its refusal: commands carried out, and bytes written into the log. */
+/* What a run tells beside its refusal: commands carried out, bytes written into the log, and bytes taken of the
+ * commands: those of the commands carried out, so that a refused one begins there.
+ * crates/lagumtay/specs/Run.antt, `answerOf`; crates/page/specs/Calls.antt, `bytesOf`. */
 typedef struct {
     size_t done;
     size_t written;
+    size_t taken;
 } lagumtay_answer;
+
+/* A command for a step, by the kinds 1 to 7 of the commands' bytes, which lagumtay_run lists. A field that its kind
+ * does not ask for is not looked at.
+ * crates/lagumtay/specs/Step.antt, `commandOf`. */
+typedef struct {
+    uint8_t kind;
+    uint8_t reader;
+    uint8_t attempts;
+    uint16_t index;
+    uint64_t count;
+} lagumtay_command;
+
+/* What a step tells beside its refusal, by the kinds of the log's entries. kind 0: no read finished; 1: a count shown;
+ * 2: a record accepted; 3: a read gave up. Fields that the kind does not have are zero.
+ * crates/lagumtay/specs/Step.antt, `toldOf`. */
+typedef struct {
+    uint8_t kind;
+    uint8_t reader;
+    uint8_t attempts;
+    uint32_t version;
+    uint64_t count;
+} lagumtay_outcome;
 
 /* The archive was built with this layout. */
 #ifdef __cplusplus
@@ -81,9 +106,22 @@ LAGUMTAY_ASSERT(offsetof(lagumtay_reader, allowed) == 1);
 LAGUMTAY_ASSERT(offsetof(lagumtay_reader, finished) == 2);
 LAGUMTAY_ASSERT(offsetof(lagumtay_reader, steps) == 8);
 LAGUMTAY_ASSERT(offsetof(lagumtay_reader, digits) == 16);
-LAGUMTAY_ASSERT(sizeof(lagumtay_answer) == 16);
+LAGUMTAY_ASSERT(sizeof(lagumtay_answer) == 24);
 LAGUMTAY_ASSERT(offsetof(lagumtay_answer, done) == 0);
 LAGUMTAY_ASSERT(offsetof(lagumtay_answer, written) == 8);
+LAGUMTAY_ASSERT(offsetof(lagumtay_answer, taken) == 16);
+LAGUMTAY_ASSERT(sizeof(lagumtay_command) == 16);
+LAGUMTAY_ASSERT(offsetof(lagumtay_command, kind) == 0);
+LAGUMTAY_ASSERT(offsetof(lagumtay_command, reader) == 1);
+LAGUMTAY_ASSERT(offsetof(lagumtay_command, attempts) == 2);
+LAGUMTAY_ASSERT(offsetof(lagumtay_command, index) == 4);
+LAGUMTAY_ASSERT(offsetof(lagumtay_command, count) == 8);
+LAGUMTAY_ASSERT(sizeof(lagumtay_outcome) == 16);
+LAGUMTAY_ASSERT(offsetof(lagumtay_outcome, kind) == 0);
+LAGUMTAY_ASSERT(offsetof(lagumtay_outcome, reader) == 1);
+LAGUMTAY_ASSERT(offsetof(lagumtay_outcome, attempts) == 2);
+LAGUMTAY_ASSERT(offsetof(lagumtay_outcome, version) == 4);
+LAGUMTAY_ASSERT(offsetof(lagumtay_outcome, count) == 8);
 #undef LAGUMTAY_ASSERT
 
 /* The refusals. Checks go 1, 2, 3, 11, 8, 6 or 7, 4, 5, 9, 10, 12; the first that applies is answered.
@@ -92,7 +130,7 @@ enum lagumtay_refusal {
     LAGUMTAY_OK = 0,
     LAGUMTAY_BAD_FORMAT = 1,         /* a number of the format is outside its range */
     LAGUMTAY_WRONG_LENGTH = 2,       /* page, readers, buffers or record differ in length from the format; the records
-                                        are no multiple of n */
+                                        are no multiple of n; the packed bytes are not 27 for each reader */
     LAGUMTAY_INVALID_STATE = 3,      /* a digit at or above its base, or a state that no steps could hold */
     LAGUMTAY_COUNT_TOO_LARGE = 4,    /* a count not below the product of the bases */
     LAGUMTAY_COUNT_DECREASES = 5,    /* a count below the one in c2 */
@@ -119,8 +157,9 @@ uint8_t lagumtay_open(const lagumtay_format *format, const uint16_t *bases, size
                       size_t buffers_len, uint64_t count, const uint8_t *record, size_t record_len);
 
 /* Carry out commands in order, up to the first that is refused. The refused one has changed nothing, the ones before it
- * have been carried out; the answer tells how many, and how many bytes of the log are written. The others keep their
- * contents. Refusals 1 to 3 are checked once at the start: then nothing at all has changed and the answer is 0 and 0.
+ * have been carried out; the answer tells how many, how many bytes of the log are written, and how many bytes the
+ * commands carried out have. The other bytes of the log keep their contents. Refusals 1 to 3 are checked once at the
+ * start: then nothing at all has changed and all numbers of the answer are 0.
  *   records   the lent records, n bytes each; there may be none. Each run may bring new ones while no record write is
  *             pending; while one is (writer kind 2), the record at the writer's index stays the one that was announced
  *   commands  a byte of kind, then its body; longer numbers are high byte first
@@ -133,24 +172,50 @@ uint8_t lagumtay_open(const lagumtay_format *format, const uint16_t *bases, size
  *               02 record accepted (reader, attempts used, 4 bytes of version); the record is in the reader's buffer
  *               03 gave up (reader, attempts used); the reader's buffer is all zeros
  * crates/protocol/specs/Run.antt, `run`; commands: Command.antt, `decode`; one command: Step.antt, `carry`; log
- * entries: Outcome.antt, `entry`; refusal 3: Load.antt, `validMemory`; this call: crates/lagumtay/specs/Calls.antt,
+ * entries: Outcome.antt, `entry`; refusal 3: Load.antt, `validMemory`; this call: crates/lagumtay/specs/Run.antt,
  * `runCall`. */
 uint8_t lagumtay_run(const lagumtay_format *format, const uint16_t *bases, size_t m, uint8_t *page, size_t page_len,
                      lagumtay_writer *writer, lagumtay_reader *readers, size_t readers_len, uint8_t *buffers,
                      size_t buffers_len, const uint8_t *records, size_t records_len, const uint8_t *commands,
                      size_t commands_len, uint8_t *log, size_t log_len, lagumtay_answer *answer);
 
-/* Cancel the read of one reader: the run of the one command 07 with an empty log. The reader is idle then, and its
- * buffer keeps its bytes. Refusals 1, 2, 3, 8 and 7, in this order; a refused one changes nothing.
+/* Carry out one command and tell how it ended, with no bytes and no log: the checks of a run, then the command. Refusal
+ * 12 is never answered. An unknown kind is refusal 11, after 1 to 3. A refused step changes nothing but the outcome,
+ * which it makes kind 0.
+ *   records   as for lagumtay_run
+ * crates/protocol/specs/Step.antt, `carry`; this call: crates/lagumtay/specs/Step.antt, `stepCall`, with `stepLent` of
+ * crates/page/specs/Calls.antt. */
+uint8_t lagumtay_step(const lagumtay_format *format, const uint16_t *bases, size_t m, uint8_t *page, size_t page_len,
+                      lagumtay_writer *writer, lagumtay_reader *readers, size_t readers_len, uint8_t *buffers,
+                      size_t buffers_len, const uint8_t *records, size_t records_len, const lagumtay_command *command,
+                      lagumtay_outcome *outcome);
+
+/* Cancel the read of one reader: the step of command 07. The reader is idle then, and its buffer keeps its bytes; only
+ * its state is written. Refusals 1, 2, 3, 8 and 7, in this order; a refused one changes nothing.
  * crates/protocol/specs/Step.antt, `carry` of `Cancel`; this call: crates/lagumtay/specs/Calls.antt, `cancelCall`. */
-uint8_t lagumtay_cancel(const lagumtay_format *format, const uint16_t *bases, size_t m, uint8_t *page, size_t page_len,
-                        const lagumtay_writer *writer, lagumtay_reader *readers, size_t readers_len,
-                        uint8_t *buffers, size_t buffers_len, const uint8_t *records, size_t records_len, uint8_t who);
+uint8_t lagumtay_cancel(const lagumtay_format *format, const uint16_t *bases, size_t m, const uint8_t *page,
+                        size_t page_len, const lagumtay_writer *writer, lagumtay_reader *readers, size_t readers_len,
+                        const uint8_t *buffers, size_t buffers_len, const uint8_t *records, size_t records_len,
+                        uint8_t who);
+
+/* Put readers' states into bytes, 27 for each: kind, allowed, finished, steps (8 bytes, high byte first), 16 digits. It
+ * checks only that there are so many bytes; if not, it answers refusal 2 and writes nothing. Any states can be packed.
+ * crates/codec/specs/Packed.antt, `packed`; crates/page/specs/Calls.antt, `packAll`; this call:
+ * crates/lagumtay/specs/Calls.antt, `packCall`. */
+uint8_t lagumtay_pack(const lagumtay_reader *readers, size_t readers_len, uint8_t *bytes, size_t bytes_len);
+
+/* Take readers' states out of bytes, the other way round: what was packed is there again, field by field. It checks the
+ * length as lagumtay_pack does. Any bytes can be unpacked; a state that no steps could hold is refused by the next run,
+ * step or cancel, by 3.
+ * crates/codec/specs/Packed.antt, `unpacked`; crates/page/specs/Calls.antt, `unpackAll`; this call:
+ * crates/lagumtay/specs/Calls.antt, `unpackCall`. */
+uint8_t lagumtay_unpack(lagumtay_reader *readers, size_t readers_len, const uint8_t *bytes, size_t bytes_len);
 
 /* WHAT IS PROMISED over all runs from an accepted opening, with the same format, nobody else writing what is lent, no
  * two calls at once, and records changed only as said at lagumtay_run: a record write that is begun from one record and
  * ended from another is read as a mixture of both. All of it is one theorem: crates/protocol/specs/Demand.antt,
- * `GeneralClaim`; over one list of records throughout, `Claim`. */
+ * `GeneralClaim`; over one list of records throughout, `Claim`. A step counts as the run of its one command with a log
+ * that has room: crates/page/specs/Calls.antt, `CarriesStep`. */
 
 /* A count shown lies between the last count fully written before the read's first step and the last one begun before
  * its last step. Demand.antt, `Span`. */

@@ -21,14 +21,15 @@ struct lent {
     uint8_t buffers[READERS * N + 1];
     uint8_t record[N + 1];
     uint8_t log[16];
+    uint8_t packed[READERS * 27 + 1];
 };
 
 /* The lengths that a call is told; a negative one is a null pointer with length 0. */
 struct lengths {
-    int bases, page, readers, buffers, record;
+    int bases, page, readers, buffers, record, packed;
 };
 
-static const struct lengths right = {M, PAGE, READERS, READERS * N, N};
+static const struct lengths right = {M, PAGE, READERS, READERS * N, N, READERS * 27};
 static struct lent lent;
 static int checks;
 
@@ -50,13 +51,26 @@ static uint8_t opening(struct lengths l) {
 /* The record is the one lent record; a second one may not be cut short. */
 static uint8_t run(struct lengths l) {
     static const uint8_t commands[] = {4, 0, 3};
-    lagumtay_answer answer = {9, 9};
+    lagumtay_answer answer = {9, 9, 9};
     uint8_t why = lagumtay_run(&lent.format, LIST(lent.bases, l.bases), LIST(lent.page, l.page), &lent.writer,
                                LIST(lent.readers, l.readers), LIST(lent.buffers, l.buffers),
                                LIST(lent.record, l.record), commands, sizeof commands, lent.log, sizeof lent.log,
                                &answer);
     if (why <= LAGUMTAY_INVALID_STATE)
-        check(answer.done == 0 && answer.written == 0, "run", "a run refused at its start answers 0 and 0");
+        check(answer.done == 0 && answer.written == 0 && answer.taken == 0, "run",
+              "a run refused at its start answers zeros");
+    return why;
+}
+
+/* A step of reader 0. */
+static uint8_t step(struct lengths l) {
+    static const lagumtay_command command = {.kind = 6, .reader = 0};
+    lagumtay_outcome outcome = {9, 9, 9, 9, 9};
+    uint8_t why = lagumtay_step(&lent.format, LIST(lent.bases, l.bases), LIST(lent.page, l.page), &lent.writer,
+                                LIST(lent.readers, l.readers), LIST(lent.buffers, l.buffers),
+                                LIST(lent.record, l.record), &command, &outcome);
+    check(outcome.kind == 0 && outcome.reader == 0 && outcome.attempts == 0 && outcome.version == 0
+              && outcome.count == 0, "step", "a step that ends no read tells zeros");
     return why;
 }
 
@@ -66,13 +80,29 @@ static uint8_t cancel(struct lengths l) {
                            1);
 }
 
-/* Each length of the call in turn is none, one less and one more. */
-static void lengths_of(const char *call, uint8_t (*answer)(struct lengths), int last) {
-    static const char *const names[] = {"bases", "page", "readers", "buffers", "record"};
-    for (int which = 0; which < last; which++)
+static uint8_t pack(struct lengths l) {
+    return lagumtay_pack(LIST(lent.readers, l.readers), LIST(lent.packed, l.packed));
+}
+
+static uint8_t unpack(struct lengths l) {
+    return lagumtay_unpack(LIST(lent.readers, l.readers), LIST(lent.packed, l.packed));
+}
+
+/* The five padding bytes of a state hold nothing and no promise speaks of them: a call may write them. This archive
+ * writes none of them, which is seen here only so that another one is noticed. */
+static void padding(const char *call) {
+    for (size_t r = 0; r < READERS; r++)
+        for (size_t k = 3; k < offsetof(lagumtay_reader, steps); k++)
+            check(((const uint8_t *)&lent.readers[r])[k] == 0xaa, call, "padding is touched");
+}
+
+/* Each length of the call, from the first on and before the last, in turn is none, one less and one more. */
+static void lengths_of(const char *call, uint8_t (*answer)(struct lengths), int first, int last) {
+    static const char *const names[] = {"bases", "page", "readers", "buffers", "record", "packed"};
+    for (int which = first; which < last; which++)
         for (int change = 0; change < 3; change++) {
             struct lengths l = right;
-            int *length = (int *[]){&l.bases, &l.page, &l.readers, &l.buffers, &l.record}[which];
+            int *length = (int *[]){&l.bases, &l.page, &l.readers, &l.buffers, &l.record, &l.packed}[which];
             *length = change == 0 ? -1 : change == 1 ? *length - 1 : *length + 1;
             /* No base at all is no format; of another number of bases the page has not the length, or the third base,
              * 0, is none. */
@@ -88,26 +118,47 @@ int main(void) {
     lent.bases[0] = 24;
     lent.bases[1] = 60;
     memcpy(lent.record, "abcd", N);
-    /* An opening does not ask what the states hold. Their padding keeps these bytes unless a call touches it. */
+    /* An opening does not ask what the states hold. */
     memset(lent.readers, 0xaa, sizeof lent.readers);
 
-    lengths_of("open", opening, 5);
+    lengths_of("open", opening, 0, 5);
     check(opening(right) == LAGUMTAY_OK, "open", "the right lengths");
+    padding("open");
 
     /* Records may be none; then there is none to write. */
-    lengths_of("run", run, 4);
+    lengths_of("run", run, 0, 4);
     struct lengths cut = right;
     cut.record = N - 1;
     check(run(cut) == LAGUMTAY_WRONG_LENGTH, "run", "records that end in the middle");
     cut.record = -1;
     check(run(cut) == LAGUMTAY_NOTHING_PENDING, "run", "no records");
     check(lent.readers[0].kind == 1, "run", "the command before the refused one is carried out");
+    padding("run");
 
-    for (size_t k = 3; k < offsetof(lagumtay_reader, steps); k++)
-        check(((const uint8_t *)&lent.readers[0])[k] == 0xaa, "run", "padding is touched");
+    lengths_of("step", step, 0, 4);
+    cut.record = N - 1;
+    check(step(cut) == LAGUMTAY_WRONG_LENGTH, "step", "records that end in the middle");
+    cut.record = -1;
+    check(step(cut) == LAGUMTAY_OK, "step", "no records");
+    check(lent.readers[0].steps == 1, "step", "a step is carried out");
+    padding("step");
 
-    lengths_of("cancel", cancel, 4);
+    lengths_of("cancel", cancel, 0, 4);
     check(cancel(right) == LAGUMTAY_NOTHING_PENDING, "cancel", "nothing to cancel");
+    padding("cancel");
+
+    lengths_of("pack", pack, 2, 3);
+    lengths_of("pack", pack, 5, 6);
+    check(pack(right) == LAGUMTAY_OK, "pack", "the right lengths");
+    check(lent.packed[0] == 1 && lent.packed[10] == 1 && lent.packed[27] == 0, "pack", "the states");
+    lengths_of("unpack", unpack, 2, 3);
+    lengths_of("unpack", unpack, 5, 6);
+    lent.packed[10] = 2;
+    check(unpack(right) == LAGUMTAY_OK, "unpack", "the right lengths");
+    check(lent.readers[0].kind == 1 && lent.readers[0].steps == 2, "unpack", "the states");
+    padding("unpack");
+    const struct lengths none = {-1, -1, -1, -1, -1, -1};
+    check(pack(none) == LAGUMTAY_OK && unpack(none) == LAGUMTAY_OK, "pack", "no states in no bytes");
     printf("%d checks passed\n", checks);
     return 0;
 }

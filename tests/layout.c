@@ -13,7 +13,8 @@
 enum { M = 3, Q = 2, N = 5, READERS = 3 };
 
 /* Bytes, so that no compiler's idea of the structs is involved. */
-static _Alignas(8) uint8_t format[32], writer[32], readers[READERS * 32], answer[16];
+static _Alignas(8) uint8_t format[32], writer[32], readers[READERS * 32], answer[24];
+static _Alignas(8) uint8_t command[16], outcome[16];
 static const uint16_t bases[M] = {7, 8, 9};
 static uint8_t page[2 * M + 2 * Q + N], buffers[READERS * N], records[3 * N], log_bytes[16];
 static int checks;
@@ -50,6 +51,144 @@ static uint8_t run(const char *commands, size_t length) {
 }
 #define RUN(commands) run(commands, sizeof(commands) - 1)
 
+/* All bytes of a command that its kind does not ask for are 0xdd. */
+static void order(uint64_t kind) {
+    memset(command, 0xdd, sizeof command);
+    put(command, 0, kind, 1);
+}
+
+static uint8_t step(void) {
+    memset(outcome, 0xee, sizeof outcome);
+    return lagumtay_step((const lagumtay_format *)format, bases, M, page, sizeof page, (lagumtay_writer *)writer,
+                         (lagumtay_reader *)readers, READERS, buffers, sizeof buffers, records, sizeof records,
+                         (const lagumtay_command *)command, (lagumtay_outcome *)outcome);
+}
+
+/* What the step told, field by field. */
+static void told(uint64_t kind, uint64_t reader, uint64_t attempts, uint64_t version, uint64_t count) {
+    check(at(outcome, 0, 1) == kind, "outcome.kind");
+    check(at(outcome, 1, 1) == reader, "outcome.reader");
+    check(at(outcome, 2, 1) == attempts, "outcome.attempts");
+    check(at(outcome, 4, 4) == version, "outcome.version");
+    check(at(outcome, 8, 8) == count, "outcome.count");
+}
+
+/* Steps that end no read. */
+static void quiet(int steps) {
+    while (steps-- > 0) {
+        check(step() == LAGUMTAY_OK, "step");
+        told(0, 0, 0, 0, 0);
+    }
+}
+
+/* Each field of a command is seen where the archive looks for it, and each of an outcome where it is told. */
+static void stepping(void) {
+    memcpy(records, "fghijklmnopqrst", sizeof records);
+    check(opening() == LAGUMTAY_OK, "open for steps");
+    order(1);
+    put(command, 8, 300, 8);
+    quiet(1);
+    check(at(writer, 0, 8) == 300 && at(writer, 28, 4) == 1, "command.count");
+    order(3);
+    quiet(2 * M);
+    order(2);
+    put(command, 4, 2, 2);
+    quiet(1);
+    check(at(writer, 8, 8) == 2 && at(writer, 28, 4) == 2, "command.index");
+    order(3);
+    quiet(2 * Q + N);
+
+    order(4);
+    put(command, 1, 2, 1);
+    quiet(1);
+    check(at(readers + 64, 0, 1) == 1, "command.reader of a count read");
+    order(6);
+    put(command, 1, 2, 1);
+    quiet(2 * M - 1);
+    check(step() == LAGUMTAY_OK, "the last step of a count read");
+    told(1, 2, 0, 0, 300);
+
+    order(5);
+    put(command, 1, 1, 1);
+    put(command, 2, 3, 1);
+    quiet(1);
+    check(at(readers + 32, 0, 3) == 0x0302, "command.reader and command.attempts");
+    order(6);
+    put(command, 1, 1, 1);
+    quiet(2 * Q + N - 1);
+    check(step() == LAGUMTAY_OK, "the last step of a record read");
+    told(2, 1, 1, 1, 0);
+    check(memcmp(buffers + N, records + 2 * N, N) == 0, "the accepted record");
+
+    /* v2 is read before the next record write begins, v1 after it was written: the read gives up. */
+    order(5);
+    put(command, 1, 0, 1);
+    put(command, 2, 1, 1);
+    quiet(1);
+    order(6);
+    put(command, 1, 0, 1);
+    quiet(Q);
+    order(2);
+    put(command, 4, 0, 2);
+    quiet(1);
+    order(3);
+    quiet(Q);
+    order(6);
+    put(command, 1, 0, 1);
+    quiet(Q + N - 1);
+    check(step() == LAGUMTAY_OK, "the last step of the last attempt");
+    told(3, 0, 1, 0, 0);
+
+    order(4);
+    put(command, 1, 0, 1);
+    quiet(1);
+    order(7);
+    put(command, 1, 0, 1);
+    quiet(1);
+    check(step() == LAGUMTAY_NOTHING_PENDING, "nothing to cancel");
+    told(0, 0, 0, 0, 0);
+    order(0);
+    check(step() == LAGUMTAY_UNKNOWN_COMMAND, "kind 0");
+    order(8);
+    check(step() == LAGUMTAY_UNKNOWN_COMMAND, "kind 8");
+    told(0, 0, 0, 0, 0);
+}
+
+/* Each byte of a state's fields goes to a place of its own, and comes back from there. */
+static void packing(void) {
+    uint8_t packed[READERS * 27 + 1], kept[sizeof readers];
+    for (size_t i = 0; i < sizeof readers; i++)
+        readers[i] = (uint8_t)(i + 1);
+    memcpy(kept, readers, sizeof readers);
+    memset(packed, 0xee, sizeof packed);
+    const lagumtay_reader *from = (const lagumtay_reader *)readers;
+    check(lagumtay_pack(from, READERS, packed, READERS * 27 + 1) == LAGUMTAY_WRONG_LENGTH, "a byte too many");
+    check(lagumtay_pack(from, READERS, packed, READERS * 27 - 1) == LAGUMTAY_WRONG_LENGTH, "a byte too few");
+    for (size_t i = 0; i < sizeof packed; i++)
+        check(packed[i] == 0xee, "a refused packing writes nothing");
+    check(lagumtay_pack(from, READERS, packed, READERS * 27) == LAGUMTAY_OK, "pack");
+    check(packed[READERS * 27] == 0xee, "the byte after the last state");
+    for (size_t r = 0; r < READERS; r++) {
+        const uint8_t *state = readers + 32 * r, *bytes = packed + 27 * r;
+        check(memcmp(bytes, state, 3) == 0, "packed kind, allowed, finished");
+        for (size_t i = 0; i < 8; i++)
+            check(bytes[3 + i] == state[15 - i], "packed steps, high byte first");
+        check(memcmp(bytes + 11, state + 16, 16) == 0, "packed digits");
+    }
+
+    lagumtay_reader *to = (lagumtay_reader *)readers;
+    memset(readers, 0xaa, sizeof readers);
+    check(lagumtay_unpack(to, READERS, packed, READERS * 27 - 1) == LAGUMTAY_WRONG_LENGTH, "unpack a byte too few");
+    for (size_t i = 0; i < sizeof readers; i++)
+        check(readers[i] == 0xaa, "a refused unpacking writes nothing");
+    check(lagumtay_unpack(to, READERS, packed, READERS * 27) == LAGUMTAY_OK, "unpack");
+    for (size_t r = 0; r < READERS; r++) {
+        check(memcmp(readers + 32 * r, kept + 32 * r, 3) == 0, "unpacked kind, allowed, finished");
+        check(memcmp(readers + 32 * r + 8, kept + 32 * r + 8, 24) == 0, "unpacked steps and digits");
+    }
+    check(RUN("") == LAGUMTAY_INVALID_STATE, "such states are judged by the next call");
+}
+
 /* The format is good; with one more in the field at this offset, it is not the one that the lengths are for. */
 static void format_field(size_t offset, size_t size, uint64_t value, const char *what) {
     check(at(format, offset, size) == value, what);
@@ -65,7 +204,8 @@ static void state_field(uint8_t *state, size_t offset, size_t size, uint64_t wro
     uint64_t value = at(state, offset, size);
     put(state, offset, wrong, size);
     check(RUN("") == LAGUMTAY_INVALID_STATE, what);
-    check(at(answer, 0, 8) == 0 && at(answer, 8, 8) == 0, "a run refused by 3 answers 0 and 0");
+    check(at(answer, 0, 8) == 0 && at(answer, 8, 8) == 0 && at(answer, 16, 8) == 0,
+          "a run refused by 3 answers zeros");
     put(state, offset, value, size);
     check(RUN("") == LAGUMTAY_OK, what);
 }
@@ -99,6 +239,7 @@ int main(void) {
     /* A count write after two steps: 300 is 4, 1, 3. */
     check(RUN("\1\0\0\0\0\0\0\1\54\3\3") == LAGUMTAY_OK, "write a count");
     check(at(answer, 0, 8) == 3 && at(answer, 8, 8) == 0, "answer.done and answer.written");
+    check(at(answer, 16, 8) == 11, "answer.taken");
     check(at(writer, 0, 8) == 300, "writer.count");
     check(at(writer, 8, 8) == 0, "writer.index of a count");
     check(at(writer, 16, 8) == 2, "writer.steps");
@@ -145,7 +286,12 @@ int main(void) {
     /* The log and the answer's second number. */
     check(RUN("\6\1\6\1") == LAGUMTAY_OK, "the end of the count read");
     check(at(answer, 0, 8) == 2 && at(answer, 8, 8) == 10, "answer.written");
+    check(at(answer, 16, 8) == 4, "answer.taken of reader steps");
     check(memcmp(log_bytes, "\1\1\0\0\0\0\0\0\1\54", 10) == 0, "the log");
+
+    /* The commands before a refused one are taken, and no byte of its own. */
+    check(RUN("\4\1\7\1\6\1\3") == LAGUMTAY_NOTHING_PENDING, "a refused command");
+    check(at(answer, 0, 8) == 2 && at(answer, 8, 8) == 0 && at(answer, 16, 8) == 4, "what a refused run answers");
 
     /* Lists that are empty need no memory. */
     memset(answer, 0xee, sizeof answer);
@@ -153,7 +299,7 @@ int main(void) {
     check(lagumtay_run((const lagumtay_format *)format, bases, M, page, sizeof page, (lagumtay_writer *)writer,
                        (lagumtay_reader *)readers, READERS, buffers, sizeof buffers, NULL, 0, NULL, 0, NULL, 0,
                        (lagumtay_answer *)answer) == LAGUMTAY_OK, "empty lists");
-    check(at(answer, 0, 8) == 0 && at(answer, 8, 8) == 0, "an empty run");
+    check(at(answer, 0, 8) == 0 && at(answer, 8, 8) == 0 && at(answer, 16, 8) == 0, "an empty run");
 
     /* Cancel. */
     check(RUN("\5\0\1\6\0\6\0\6\0") == LAGUMTAY_OK, "a record read to cancel");
@@ -166,6 +312,8 @@ int main(void) {
     check(at(readers, 0, 3) == 0 && at(readers, 8, 8) == 0, "the cancelled reader is idle");
     check(buffers[0] == 'a' && buffers[1] == 0, "its buffer keeps its bytes");
 
+    stepping();
+    packing();
     printf("%d checks passed\n", checks);
     return 0;
 }

@@ -1,7 +1,7 @@
 //! Document 01 in plain Rust, over the same lent memory as the proved archive: the baseline of the bench, and the other
 //! side of the fuzz program. It is written from document 01 to be fast: a run checks its memory once, digits eight at a
 //! time, and after that a command costs a look at its kind and one byte moved.
-use lagumtay::raw::{Answer, Format, Lent, Reader, Writer};
+use lagumtay::raw::{Answer, Command, Format, Lent, Outcome, Reader, Writer, PACKED};
 use lagumtay::Refusal::{self, *};
 
 // Kinds of a state, the writer's and a reader's.
@@ -48,14 +48,62 @@ pub fn run(lent: &mut Lent, records: &[u8], commands: &[u8], log: &mut [u8]) -> 
         Err(why) => return (Answer::default(), Err(why)),
     };
     let mut log = Log { bytes: log, written: 0 };
-    let (done, ending) = Machine::new(lent, records, most).commands(commands, &mut log);
-    (Answer { done, written: log.written }, ending)
+    let (done, left, ending) = Machine::new(lent, records, most).commands(commands, &mut log);
+    (Answer { done, written: log.written, taken: commands.len() - left }, ending)
+}
+
+/// One command, told at once: there is no log that could be full.
+#[inline(never)]
+pub fn step(lent: &mut Lent, records: &[u8], command: &Command) -> (Outcome, Ending) {
+    let mut outcome = Outcome::default();
+    let ending = check(lent, records).and_then(|most| Machine::new(lent, records, most).command(command, &mut outcome));
+    (outcome, ending)
 }
 
 /// The run of one command that cancels this reader's read.
 pub fn cancel(lent: &mut Lent, records: &[u8], who: u8) -> Ending {
     let most = check(lent, records)?;
     Machine::new(lent, records, most).cancel(who)
+}
+
+/// The command that these bytes are, of those that a step is told; kind 0 if they are none.
+pub fn command_of(bytes: &[u8]) -> Command {
+    let none = Command::default();
+    match *bytes {
+        [1, ref count @ ..] => match count.try_into() {
+            Ok(count) => Command { kind: 1, count: u64::from_be_bytes(count), ..none },
+            Err(_) => none,
+        },
+        [2, high, low] => Command { kind: 2, index: u16::from_be_bytes([high, low]), ..none },
+        [3] => Command { kind: 3, ..none },
+        [kind @ (4 | 6 | 7), reader] => Command { kind, reader, ..none },
+        [5, reader, attempts] => Command { kind: 5, reader, attempts, ..none },
+        _ => none,
+    }
+}
+
+/// Readers' states into bytes: kind, allowed, finished, steps with the high byte first, digits.
+pub fn pack(readers: &[Reader], bytes: &mut [u8]) -> Ending {
+    ensure(bytes.len() == PACKED * readers.len(), WrongLength)?;
+    for (state, reader) in bytes.chunks_exact_mut(PACKED).zip(readers) {
+        state[..3].copy_from_slice(&[reader.kind, reader.allowed, reader.finished]);
+        state[3..11].copy_from_slice(&reader.steps.to_be_bytes());
+        state[11..].copy_from_slice(&reader.digits);
+    }
+    Ok(())
+}
+
+/// Readers' states out of bytes.
+pub fn unpack(readers: &mut [Reader], bytes: &[u8]) -> Ending {
+    ensure(bytes.len() == PACKED * readers.len(), WrongLength)?;
+    for (reader, state) in readers.iter_mut().zip(bytes.chunks_exact(PACKED)) {
+        let (mut steps, mut digits) = ([0; 8], [0; 16]);
+        steps.copy_from_slice(&state[3..11]);
+        digits.copy_from_slice(&state[11..]);
+        let [kind, allowed, finished] = [state[0], state[1], state[2]];
+        *reader = Reader { kind, allowed, finished, steps: usize::from_be_bytes(steps), digits };
+    }
+    Ok(())
 }
 
 fn ensure(condition: bool, otherwise: Refusal) -> Ending {
@@ -248,13 +296,53 @@ fn halves(reader: &Reader) -> (u64, u64) {
 
 // ONE COMMAND AFTER ANOTHER
 
+/// Who is told how a read ended. It is told before the step changes anything, so that a step refused here has changed
+/// nothing.
+trait Told {
+    fn shown(&mut self, who: u8, count: u64) -> Ending;
+    fn accepted(&mut self, who: u8, attempts: u8, version: u32) -> Ending;
+    fn gave_up(&mut self, who: u8, attempts: u8) -> Ending;
+}
+
+impl Told for Outcome {
+    fn shown(&mut self, reader: u8, count: u64) -> Ending {
+        *self = Outcome { kind: 1, reader, count, ..Outcome::default() };
+        Ok(())
+    }
+
+    fn accepted(&mut self, reader: u8, attempts: u8, version: u32) -> Ending {
+        *self = Outcome { kind: 2, reader, attempts, version, ..Outcome::default() };
+        Ok(())
+    }
+
+    fn gave_up(&mut self, reader: u8, attempts: u8) -> Ending {
+        *self = Outcome { kind: 3, reader, attempts, ..Outcome::default() };
+        Ok(())
+    }
+}
+
 struct Log<'a> {
     bytes: &'a mut [u8],
     written: usize,
 }
 
+impl Told for Log<'_> {
+    fn shown(&mut self, who: u8, count: u64) -> Ending {
+        let [a, b, c, d, e, f, g, h] = count.to_be_bytes();
+        self.put([1, who, a, b, c, d, e, f, g, h])
+    }
+
+    fn accepted(&mut self, who: u8, attempts: u8, version: u32) -> Ending {
+        let [a, b, c, d] = version.to_be_bytes();
+        self.put([2, who, attempts, a, b, c, d])
+    }
+
+    fn gave_up(&mut self, who: u8, attempts: u8) -> Ending {
+        self.put([3, who, attempts])
+    }
+}
+
 impl Log<'_> {
-    /// Called before the step changes anything, so that a step refused here has changed nothing.
     fn put<const N: usize>(&mut self, entry: [u8; N]) -> Ending {
         let room = self.bytes[self.written..].first_chunk_mut().ok_or(LogFull)?;
         *room = entry;
@@ -296,12 +384,17 @@ impl<'a> Machine<'a> {
         Machine { counts, base, copies, v1, content, v2, writer, readers, buffers, records, record, digits: None }
     }
 
-    /// The commands up to the first that is refused: how many were carried out, and the refusal.
+    /// The commands up to the first that is refused: how many were carried out, how many bytes are left, and the
+    /// refusal.
     #[inline(always)]
-    fn commands(mut self, commands: &[u8], log: &mut Log) -> (usize, Ending) {
+    fn commands(mut self, commands: &[u8], log: &mut Log) -> (usize, usize, Ending) {
         let mut bytes = commands.iter();
         let mut done = 0;
-        while let Some(&kind) = bytes.next() {
+        loop {
+            let left = bytes.len();
+            let Some(&kind) = bytes.next() else {
+                return (done, left, Ok(()));
+            };
             // Almost all are steps: they are told apart first, by comparing.
             let ending = match kind {
                 3 => self.writer_step(),
@@ -309,11 +402,25 @@ impl<'a> Machine<'a> {
                 _ => self.no_step(kind, bytes.as_slice()).map(|rest| bytes = rest.iter()),
             };
             if ending.is_err() {
-                return (done, ending);
+                return (done, left, ending);
             }
             done += 1;
         }
-        (done, Ok(()))
+    }
+
+    /// One command that is no bytes.
+    fn command(mut self, command: &Command, outcome: &mut Outcome) -> Ending {
+        let Command { kind, reader, attempts, index, count } = *command;
+        match kind {
+            1 => self.begin_count_write(count),
+            2 => self.begin_record_write(index.into()),
+            3 => self.writer_step(),
+            4 => self.begin_read(reader, COUNT, 0),
+            5 => self.begin_record_read(reader, attempts),
+            6 => self.reader_step(reader, outcome),
+            7 => self.cancel(reader),
+            _ => Err(UnknownCommand),
+        }
     }
 
     /// A command that is no step, of this kind and with its body in front of these bytes; gives the bytes after it.
@@ -333,8 +440,7 @@ impl<'a> Machine<'a> {
                 rest
             }
             (5, [who, allowed, rest @ ..]) => {
-                ensure(*allowed != 0, NoSuch)?;
-                self.begin_read(*who, RECORD, *allowed)?;
+                self.begin_record_read(*who, *allowed)?;
                 rest
             }
             (7, [who, rest @ ..]) => {
@@ -412,6 +518,12 @@ impl<'a> Machine<'a> {
     }
 
     #[inline(always)]
+    fn begin_record_read(&mut self, who: u8, allowed: u8) -> Ending {
+        ensure(allowed != 0, NoSuch)?;
+        self.begin_read(who, RECORD, allowed)
+    }
+
+    #[inline(always)]
     fn begin_read(&mut self, who: u8, kind: u8, allowed: u8) -> Ending {
         let reader = self.readers.get_mut(usize::from(who)).ok_or(NoSuch)?;
         ensure(reader.kind == IDLE, Busy)?;
@@ -428,7 +540,7 @@ impl<'a> Machine<'a> {
     }
 
     #[inline(always)]
-    fn reader_step(&mut self, who: u8, log: &mut Log) -> Ending {
+    fn reader_step(&mut self, who: u8, told: &mut impl Told) -> Ending {
         let reader = self.readers.get_mut(usize::from(who)).ok_or(NoSuch)?;
         let k = reader.steps;
         match reader.kind {
@@ -438,7 +550,7 @@ impl<'a> Machine<'a> {
                 let m = self.counts.bases.len();
                 let left = 2 * m - 1 - k;
                 if left == 0 {
-                    return end_count_read(self.counts, reader, self.copies[m], who, log);
+                    return end_count_read(self.counts, reader, self.copies[m], who, told);
                 }
                 let (from, to) = if k < m { (k, k) } else { (m + left, 8 + left) };
                 reader.digits[to] = self.copies[from];
@@ -455,7 +567,7 @@ impl<'a> Machine<'a> {
                     let left = 2 * q + n - 1 - k;
                     if left == 0 {
                         let buffer = &mut self.buffers[usize::from(who) * n..][..n];
-                        return end_attempt(self.base, self.v1, reader, buffer, who, log);
+                        return end_attempt(self.base, self.v1, reader, buffer, who, told);
                     }
                     reader.digits[8 + left] = self.v1[left];
                 }
@@ -496,32 +608,29 @@ fn pending_digits(counts: Radix, base: u16, q: usize, writer: &Writer) -> u64 {
 
 /// The last step of a count read, with the digit that it reads.
 #[inline(never)]
-fn end_count_read(counts: Radix, reader: &mut Reader, digit: u8, who: u8, log: &mut Log) -> Ending {
+fn end_count_read(counts: Radix, reader: &mut Reader, digit: u8, who: u8, told: &mut impl Told) -> Ending {
     let (a, b) = halves(reader);
     let b = b | u64::from(digit) << 56;
     ensure(a <= b, CopiesCrossed)?;
     let agree = (a ^ b).leading_zeros() as usize / 8;
-    let [a, b, c, d, e, f, g, h] = counts.value(b & high(agree + 1)).to_be_bytes();
-    log.put([1, who, a, b, c, d, e, f, g, h])?;
+    told.shown(who, counts.value(b & high(agree + 1)))?;
     *reader = Reader::default();
     Ok(())
 }
 
 /// The last step of an attempt at a record read, which reads the first digit of v1.
 #[inline(never)]
-fn end_attempt(base: u16, v1: &[u8], reader: &mut Reader, buffer: &mut [u8], who: u8, log: &mut Log) -> Ending {
+fn end_attempt(base: u16, v1: &[u8], reader: &mut Reader, buffer: &mut [u8], who: u8, told: &mut impl Told) -> Ending {
     let (first, second) = halves(reader);
     let second = second | u64::from(v1[0]) << 56;
     let used = reader.finished + 1;
     if first == second {
-        let version = Radix::versions(&[base; 4], v1.len()).value(first) as u32;
-        let [a, b, c, d] = version.to_be_bytes();
-        log.put([2, who, used, a, b, c, d])?;
+        told.accepted(who, used, Radix::versions(&[base; 4], v1.len()).value(first) as u32)?;
         *reader = Reader::default();
     } else if used < reader.allowed {
         *reader = Reader { kind: RECORD, allowed: reader.allowed, finished: used, ..Reader::default() };
     } else {
-        log.put([3, who, used])?;
+        told.gave_up(who, used)?;
         *reader = Reader::default();
         buffer.fill(0); // no torn bytes stay behind
     }

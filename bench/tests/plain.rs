@@ -1,8 +1,8 @@
 //! The plain implementation against document 01: its printed run, its trap, its edges, and each refusal.
-use lagumtay::raw::{Answer, Format, Reader, Writer};
+use lagumtay::raw::{Answer, Command, Format, Outcome, Reader, Writer, PACKED};
 use lagumtay::Refusal;
 use lagumtay_bench::owned::Owned;
-use lagumtay_bench::plain::{self, number};
+use lagumtay_bench::plain::{self, command_of, number};
 use lagumtay_bench::runlist::printed;
 
 fn bytes(text: &str) -> Vec<u8> {
@@ -31,10 +31,17 @@ fn run(lent: &mut Owned, commands: &str) -> (usize, Vec<u8>, u8) {
 
 fn run_with(lent: &mut Owned, records: &[u8], commands: &str, room: usize) -> (usize, Vec<u8>, u8) {
     let mut log = vec![0xee; room];
-    let (Answer { done, written }, ending) = plain::run(&mut lent.lend(), records, &bytes(commands), &mut log);
+    let commands = bytes(commands);
+    let (Answer { done, written, taken }, ending) = plain::run(&mut lent.lend(), records, &commands, &mut log);
+    assert_eq!(taken, length_of(&commands, done), "the bytes of the commands carried out");
     assert!(log[written..].iter().all(|&byte| byte == 0xee), "the log is written past what is told");
     log.truncate(written);
     (done, log, number(ending))
+}
+
+/// The bytes of so many commands.
+fn length_of(commands: &[u8], done: usize) -> usize {
+    (0..done).fold(0, |at, _| at + [1, 9, 3, 1, 2, 3, 2, 2][usize::from(commands[at])])
 }
 
 /// The run's last command is refused by this number and changes nothing.
@@ -244,6 +251,73 @@ fn refusal_12_log_full() {
         assert_eq!(lent, before);
         assert_eq!(run_with(&mut lent, RECORDS, end, entry.len()), (1, entry, 0));
     }
+}
+
+#[test]
+fn steps_as_it_runs() {
+    let nothing = Outcome::default();
+    let step = |lent: &mut Owned, command: &str| plain::step(&mut lent.lend(), RECORDS, &command_of(&bytes(command)));
+    let mut stepped = opened(&[10], 4);
+    let mut ran = stepped.clone();
+    // Reader 1 gives up after two attempts that a record write meets, then reader 0 accepts; then a count is shown.
+    let torn = "050102 0601 020001 03 0601 0601 0601 0601 0601 0601 | 0601 03 03 03 050001 0600 0600 0600 | 0600 \
+                01,0000000000000007 03 03 0401 0601 | 0601 0401 0701";
+    let mut told = [
+        Outcome { kind: 3, reader: 1, attempts: 2, ..nothing },
+        Outcome { kind: 2, reader: 0, attempts: 1, version: 1, ..nothing },
+        Outcome { kind: 1, reader: 1, count: 7, ..nothing },
+    ]
+    .into_iter();
+    let mut ends = false;
+    for command in torn.split_whitespace() {
+        if command == "|" {
+            ends = true;
+            continue;
+        }
+        let outcome = if ends { told.next().unwrap() } else { nothing };
+        ends = false;
+        assert_eq!(step(&mut stepped, command), (outcome, Ok(())), "{command}");
+        assert_eq!(run(&mut ran, command).2, 0);
+        assert_eq!(stepped, ran);
+    }
+    for (command, why) in [
+        ("", Refusal::UnknownCommand),
+        ("03", Refusal::NothingPending),
+        ("01,000000000000000a", Refusal::CountTooLarge),
+        ("01,0000000000000006", Refusal::CountDecreases),
+        ("020002", Refusal::NoSuch),
+        ("050000", Refusal::NoSuch),
+        ("06ff", Refusal::NoSuch),
+        ("0701", Refusal::NothingPending),
+    ] {
+        assert_eq!(step(&mut stepped, command), (nothing, Err(why)), "{command}");
+    }
+    for kind in [0, 8, 255] {
+        let unknown = Command { kind, reader: 255, ..Command::default() };
+        assert_eq!(plain::step(&mut stepped.lend(), RECORDS, &unknown), (nothing, Err(Refusal::UnknownCommand)));
+        // The checks at the start come before the command is looked at.
+        assert_eq!(plain::step(&mut stepped.lend(), b"bbc", &unknown), (nothing, Err(Refusal::WrongLength)));
+    }
+    assert_eq!(stepped, ran);
+}
+
+#[test]
+fn packs_and_unpacks() {
+    let digits = std::array::from_fn(|i| 0xa0 + i as u8);
+    let reader = Reader { kind: 1, allowed: 2, finished: 3, steps: 0x0405_0607_0809_0a0b, digits };
+    let readers = [Reader::default(), reader];
+    let mut packed = [0xee; 2 * PACKED];
+    assert_eq!(plain::pack(&readers, &mut packed), Ok(()));
+    assert_eq!(packed[..27], [0; 27]);
+    assert_eq!(packed[27..], bytes("01 02 03 0405060708090a0b a0a1a2a3a4a5a6a7 a8a9aaabacadaeaf"));
+    let mut back = [Reader::default(); 2];
+    assert_eq!(plain::unpack(&mut back, &packed[..53]), Err(Refusal::WrongLength));
+    assert_eq!(back, [Reader::default(); 2]);
+    assert_eq!(plain::unpack(&mut back, &packed), Ok(()));
+    assert_eq!(back, readers);
+    let before = packed;
+    assert_eq!(plain::pack(&readers[..1], &mut packed), Err(Refusal::WrongLength));
+    assert_eq!(packed, before);
 }
 
 #[test]

@@ -4,14 +4,14 @@
 //!
 //! A case is a page with a row of calls, each from what the one before left: mostly schedules that go on, with damage
 //! to a byte, a field or a length now and then, and some cases of nothing but garbage. Every call goes to both, and all
-//! that was lent is compared: format, bases, page, writer, readers, buffers, records, commands, log, and the answer.
-//! (Of the readers' states all fields are compared; the five bytes of padding have no contents.) CASE replays that one
-//! alone. Exit status 1: some call differed.
+//! that was lent is compared: format, bases, page, writer, readers, buffers, records, commands, log, packed bytes, and
+//! the answer or the outcome. (Of the readers' states all fields are compared; the five bytes of padding have no
+//! contents.) CASE replays that one alone. Exit status 1: some call differed.
 use std::fmt;
 
-use lagumtay::raw::{Answer, Format, Reader, Writer};
+use lagumtay::raw::{self, Answer, Command, Format, Outcome, Reader, Writer, PACKED};
 use lagumtay_bench::owned::Owned;
-use lagumtay_bench::plain::{self, number};
+use lagumtay_bench::plain::{self, command_of, number};
 use lagumtay_bench::random::Random;
 
 const MOST_SHOWN: u64 = 10;
@@ -21,7 +21,10 @@ enum Function {
     Open,
     #[default]
     Run,
+    Step,
     Cancel,
+    Pack,
+    Unpack,
 }
 
 /// One call with all that it is lent.
@@ -35,32 +38,71 @@ struct Call {
     count: u64,
     record: Vec<u8>,
     who: u8,
+    command: Command,
+    packed: Vec<u8>,
+}
+
+/// What a call tells beside its ending: a run its answer, a step its outcome.
+#[derive(Clone, Copy, Debug, Default, PartialEq)]
+struct Told {
+    answer: Answer,
+    outcome: Outcome,
+}
+
+impl Told {
+    fn answer((answer, ending): (Answer, u8)) -> (Told, u8) {
+        (Told { answer, ..Told::default() }, ending)
+    }
+
+    fn outcome((outcome, ending): (Outcome, u8)) -> (Told, u8) {
+        (Told { outcome, ..Told::default() }, ending)
+    }
+
+    fn nothing(ending: u8) -> (Told, u8) {
+        (Told::default(), ending)
+    }
 }
 
 impl Call {
-    fn plain(&mut self) -> (Answer, u8) {
-        let mut lent = self.lent.lend();
-        let (answer, ending) = match self.function {
-            Function::Open => (Answer::default(), plain::open(&mut lent, self.count, &self.record)),
-            Function::Run => plain::run(&mut lent, &self.records, &self.commands, &mut self.log),
-            Function::Cancel => (Answer::default(), plain::cancel(&mut lent, &self.records, self.who)),
-        };
-        (answer, number(ending))
-    }
-
-    fn archive(&mut self) -> (Answer, u8) {
+    fn plain(&mut self) -> (Told, u8) {
         let mut lent = self.lent.lend();
         match self.function {
-            Function::Open => (Answer::default(), lent.open(self.count, &self.record)),
-            Function::Run => lent.run(&self.records, &self.commands, &mut self.log),
-            Function::Cancel => (Answer::default(), lent.cancel(&self.records, self.who)),
+            Function::Open => Told::nothing(number(plain::open(&mut lent, self.count, &self.record))),
+            Function::Run => {
+                let (answer, ending) = plain::run(&mut lent, &self.records, &self.commands, &mut self.log);
+                Told::answer((answer, number(ending)))
+            }
+            Function::Step => {
+                let (outcome, ending) = plain::step(&mut lent, &self.records, &self.command);
+                Told::outcome((outcome, number(ending)))
+            }
+            Function::Cancel => Told::nothing(number(plain::cancel(&mut lent, &self.records, self.who))),
+            Function::Pack => Told::nothing(number(plain::pack(lent.readers, &mut self.packed))),
+            Function::Unpack => Told::nothing(number(plain::unpack(lent.readers, &self.packed))),
         }
+    }
+
+    fn archive(&mut self) -> (Told, u8) {
+        let mut lent = self.lent.lend();
+        match self.function {
+            Function::Open => Told::nothing(lent.open(self.count, &self.record)),
+            Function::Run => Told::answer(lent.run(&self.records, &self.commands, &mut self.log)),
+            Function::Step => Told::outcome(lent.step(&self.records, &self.command)),
+            Function::Cancel => Told::nothing(lent.cancel(&self.records, self.who)),
+            Function::Pack => Told::nothing(raw::pack(lent.readers, &mut self.packed)),
+            Function::Unpack => Told::nothing(raw::unpack(lent.readers, &self.packed)),
+        }
+    }
+
+    /// Would a run, a step or a cancel be refused by 1, 2 or 3?
+    fn damaged(&self) -> bool {
+        plain::run(&mut self.lent.clone().lend(), &self.records, &[], &mut []).1.is_err()
     }
 }
 
 impl fmt::Display for Call {
     fn fmt(&self, f: &mut fmt::Formatter) -> fmt::Result {
-        let Call { function, lent, records, commands, log, count, record, who } = self;
+        let Call { function, lent, records, commands, log, count, record, who, command, packed } = self;
         writeln!(f, "  {function:?} {:?}, bases {:?}", lent.format, lent.bases)?;
         writeln!(f, "  page {:02x?}\n  {:?}", lent.page, lent.writer)?;
         lent.readers.iter().try_for_each(|reader| writeln!(f, "  {reader:?}"))?;
@@ -68,7 +110,9 @@ impl fmt::Display for Call {
         match function {
             Function::Open => writeln!(f, "  count {count}, record {record:02x?}"),
             Function::Run => writeln!(f, "  commands {commands:02x?}\n  log {log:02x?}"),
+            Function::Step => writeln!(f, "  {command:?}"),
             Function::Cancel => writeln!(f, "  who {who}"),
+            Function::Pack | Function::Unpack => writeln!(f, "  packed {packed:02x?}"),
         }
     }
 }
@@ -78,9 +122,12 @@ struct Totals {
     calls: u64,
     /// by document 01's number; past 12 is none
     endings: [u64; 14],
-    functions: [u64; 3],
+    functions: [u64; 6],
     commands: u64,
+    command_bytes: u64,
     log_bytes: u64,
+    /// steps by the kind of what they told
+    outcomes: [u64; 4],
     differed: u64,
 }
 
@@ -100,23 +147,27 @@ impl Case<'_> {
     fn compare(&mut self) -> Option<u8> {
         let before = self.call.clone();
         let mut theirs = self.call.clone();
-        let (answer, ending) = self.call.plain();
-        let (their_answer, their_ending) = theirs.archive();
+        let (told, ending) = self.call.plain();
+        let (their_told, their_ending) = theirs.archive();
         self.totals.calls += 1;
         self.totals.functions[before.function as usize] += 1;
         self.totals.endings[usize::from(ending).min(13)] += 1;
-        self.totals.commands += answer.done as u64;
-        self.totals.log_bytes += answer.written as u64;
-        let same = (answer, ending) == (their_answer, their_ending) && self.call == theirs;
+        self.totals.commands += told.answer.done as u64;
+        self.totals.command_bytes += told.answer.taken as u64;
+        self.totals.log_bytes += told.answer.written as u64;
+        if before.function == Function::Step {
+            self.totals.outcomes[usize::from(told.outcome.kind)] += 1;
+        }
+        let same = (told, ending) == (their_told, their_ending) && self.call == theirs;
         if self.verbose {
-            println!("{before}  ends with {ending} {answer:?}\n");
+            println!("{before}  ends with {ending} {told:?}\n");
         }
         if same {
             return Some(ending);
         }
         self.totals.differed += 1;
         if self.totals.differed <= MOST_SHOWN {
-            println!("{}: plain {ending} {answer:?}, archive {their_ending} {their_answer:?}", self.name);
+            println!("{}: plain {ending} {told:?}, archive {their_ending} {their_told:?}", self.name);
             println!("before\n{before}plain leaves\n{}archive leaves\n{theirs}", self.call);
         }
         None
@@ -149,21 +200,45 @@ impl Case<'_> {
                     self.call.function = Function::Cancel;
                     self.call.who = self.some_reader();
                 }
+                5 | 6 => self.packing(),
+                7 | 8 => self.unpacking(),
+                9..=15 => {
+                    let writes = self.random.one_in(3);
+                    let who = self.some_reader();
+                    for _ in 0..self.random.of(&[0, 1, 4, 20]) {
+                        self.step(writes, who);
+                        if !self.go_on() {
+                            return;
+                        }
+                    }
+                    self.step(writes, who);
+                }
                 _ => self.schedule(),
             }
-            let whole = self.call.clone();
-            if self.random.one_in(6) {
-                self.damage();
-            }
-            match self.compare() {
-                None => return,
-                // What was damaged too much is put back; other damage stays and is worked on.
-                Some(1..=3) => self.call = whole,
-                // Of records no opening tells whether they are.
-                Some(_) if self.call.function == Function::Open => self.call.records = whole.records,
-                Some(_) => {}
+            if !self.go_on() {
+                return;
             }
         }
+    }
+
+    /// Compare the call that is chosen, now and then damaged. No: they differ.
+    fn go_on(&mut self) -> bool {
+        let whole = self.call.clone();
+        if self.random.one_in(6) {
+            self.damage();
+        }
+        match self.compare() {
+            None => return false,
+            // What was damaged too much is put back; other damage stays and is worked on.
+            Some(1..=3) => self.call = whole,
+            // Of records no opening tells whether they are, and of nothing do packing and unpacking.
+            Some(_) => match self.call.function {
+                Function::Open => self.call.records = whole.records,
+                Function::Pack | Function::Unpack if self.call.damaged() => self.call = whole,
+                _ => {}
+            },
+        }
+        true
     }
 
     fn opening(&mut self) {
@@ -184,6 +259,47 @@ impl Case<'_> {
             0 => self.random.byte(),
             1 => self.call.lent.format.readers as u8,
             _ => self.random.below(self.call.lent.format.readers) as u8,
+        }
+    }
+
+    /// A step of the writer or of this reader that mostly can be carried out, with anything in fields that its kind does
+    /// not ask for.
+    fn step(&mut self, writes: bool, who: u8) {
+        self.call.function = Function::Step;
+        let bytes = if writes {
+            let writer = self.call.lent.writer;
+            self.writer_command(&writer)
+        } else {
+            let reader = self.call.lent.readers.get(usize::from(who)).copied();
+            self.reader_command(who, reader.as_ref())
+        };
+        let Command { kind, reader, attempts, index, count } = command_of(&bytes);
+        let other = wild_command(&mut self.random);
+        self.call.command = Command {
+            kind,
+            reader: if kind >= 4 { reader } else { other.reader },
+            attempts: if kind == 5 { attempts } else { other.attempts },
+            index: if kind == 2 { index } else { other.index },
+            count: if kind == 1 { count } else { other.count },
+        };
+    }
+
+    fn packing(&mut self) {
+        self.call.function = Function::Pack;
+        self.call.packed = self.random.bytes(PACKED * self.call.lent.readers.len());
+    }
+
+    /// The states as they are, some bytes of them changed, or anything.
+    fn unpacking(&mut self) {
+        self.packing();
+        self.call.function = Function::Unpack;
+        if self.random.one_in(4) {
+            return;
+        }
+        let packed = plain::pack(&self.call.lent.readers, &mut self.call.packed);
+        assert_eq!(packed, Ok(()));
+        for _ in 0..self.random.below(4) {
+            change_byte(&mut self.random, &mut self.call.packed);
         }
     }
 
@@ -253,7 +369,7 @@ impl Case<'_> {
     fn damage(&mut self) {
         let Case { random, call, .. } = self;
         let lent = &mut call.lent;
-        match random.below(15) {
+        match random.below(18) {
             0..=2 => change_byte(random, &mut lent.page),
             3 => change_byte(random, &mut lent.buffers),
             4 | 5 => change_byte(random, &mut call.commands),
@@ -295,7 +411,18 @@ impl Case<'_> {
                 let at = random.below(lent.bases.len());
                 lent.bases[at] = random.of(&[0, 1, 2, 3, 10, 255, 256, 257, 0x100a, u16::MAX]);
             }
-            _ => call.records.truncate(random.below(call.records.len() + 1)),
+            14 => call.records.truncate(random.below(call.records.len() + 1)),
+            15 | 16 => {
+                let wild = wild_command(random);
+                match random.below(5) {
+                    0 => call.command.kind = wild.kind,
+                    1 => call.command.reader = wild.reader,
+                    2 => call.command.attempts = wild.attempts,
+                    3 => call.command.index = wild.index,
+                    _ => call.command.count = wild.count,
+                }
+            }
+            _ => change_length(random, &mut call.packed),
         }
     }
 
@@ -330,7 +457,18 @@ impl Case<'_> {
         call.record = random_bytes(random, 8);
         call.count = random.next_u64();
         call.who = random.byte();
-        call.function = random.of(&[Function::Open, Function::Run, Function::Run, Function::Cancel]);
+        call.command = wild_command(random);
+        let readers = call.lent.readers.len();
+        call.packed = if random.one_in(2) { random.bytes(PACKED * readers) } else { random_bytes(random, 600) };
+        call.function = random.of(&[
+            Function::Open,
+            Function::Run,
+            Function::Run,
+            Function::Step,
+            Function::Cancel,
+            Function::Pack,
+            Function::Unpack,
+        ]);
         self.compare();
     }
 }
@@ -418,6 +556,16 @@ fn wild_reader(random: &mut Random, lent: &Owned) -> Reader {
     reader
 }
 
+fn wild_command(random: &mut Random) -> Command {
+    Command {
+        kind: if random.one_in(6) { random.byte() } else { random.below(9) as u8 },
+        reader: if random.one_in(4) { random.byte() } else { random.below(17) as u8 },
+        attempts: if random.one_in(2) { random.byte() } else { random.below(3) as u8 },
+        index: if random.one_in(4) { random.next_u64() as u16 } else { random.below(6) as u16 },
+        count: random.next_u64() >> random.below(64),
+    }
+}
+
 /// One byte becomes another: any, a small one, or one next to it.
 fn change_byte(random: &mut Random, bytes: &mut [u8]) {
     if bytes.is_empty() {
@@ -470,9 +618,13 @@ fn compared(calls: u64, seed: u64, only: Option<u64>) -> u64 {
         }
         at += 1;
     }
-    let [open, run, cancel] = totals.functions;
-    println!("{} calls of {at} cases: {open} of open, {run} of run, {cancel} of cancel", totals.calls);
-    println!("{} commands carried out, {} log bytes written", totals.commands, totals.log_bytes);
+    let [open, run, step, cancel, pack, unpack] = totals.functions;
+    println!("{} calls of {at} cases: {open} of open, {run} of run, {step} of step,", totals.calls);
+    println!("{cancel} of cancel, {pack} of pack, {unpack} of unpack");
+    let Totals { commands, command_bytes, log_bytes, .. } = totals;
+    println!("runs: {commands} commands of {command_bytes} bytes carried out, {log_bytes} log bytes written");
+    let [nothing, shown, accepted, gave_up] = totals.outcomes;
+    println!("steps: {shown} showed a count, {accepted} accepted a record, {gave_up} gave up, {nothing} told nothing");
     for (number, count) in totals.endings.iter().enumerate().filter(|(_, &count)| count > 0) {
         println!("ended with {number}: {count}");
     }

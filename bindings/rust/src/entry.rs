@@ -1,5 +1,5 @@
-//! What a run tells in its log.
-use crate::{Count, Version};
+//! What a run tells in its log, and a step at once.
+use crate::{raw, Count, Version};
 
 /// How a read ended.
 #[derive(Clone, Copy, Debug, PartialEq, Eq)]
@@ -18,6 +18,19 @@ pub enum Entry {
         reader: u8,
         attempts: u8,
     },
+}
+
+impl Entry {
+    /// What a step tells, if it ended a read.
+    pub(crate) fn told(outcome: raw::Outcome) -> Option<Entry> {
+        let raw::Outcome { kind, reader, attempts, version, count } = outcome;
+        match kind {
+            1 => Some(Entry::Shown { reader, count: Count(count) }),
+            2 => Some(Entry::Accepted { reader, attempts, version: Version(version) }),
+            3 => Some(Entry::GaveUp { reader, attempts }),
+            _ => None,
+        }
+    }
 }
 
 /// The entries of a log in order. Bytes that no run writes end it.

@@ -4,7 +4,8 @@
 //!
 //! All is done in single steps, so that a schedule decides who moves when: a write is begun by a [`Command`] and each
 //! of its digits moved by another; the same for reads. [`Page::run`] carries out a list of commands and tells in a log
-//! how reads ended. A [`Page`] owns its memory; [`raw`] is for callers who own it themselves.
+//! how reads ended; [`Page::step`] carries out one command and tells it at once. A [`Page`] owns its memory; [`raw`] is
+//! for callers who own it themselves.
 
 mod entry;
 pub mod raw;
@@ -72,7 +73,7 @@ impl fmt::Display for Refusal {
     fn fmt(&self, f: &mut fmt::Formatter) -> fmt::Result {
         f.write_str(match self {
             Refusal::BadFormat => "a number of the format is outside its range",
-            Refusal::WrongLength => "a record, or the lent records, differ in length from the format",
+            Refusal::WrongLength => "a record, the lent records, or saved bytes differ in length from the format",
             Refusal::InvalidState => "a digit at or above its base, or a state that no steps could hold",
             Refusal::CountTooLarge => "a count not below the product of the bases",
             Refusal::CountDecreases => "a count below the last one",
@@ -128,6 +129,20 @@ impl Command {
             Command::Cancel(reader) => commands.extend([7, reader]),
         }
     }
+
+    /// The command as a step is told it.
+    fn raw(self) -> raw::Command {
+        let none = raw::Command::default();
+        match self {
+            Command::WriteCount(Count(count)) => raw::Command { kind: 1, count, ..none },
+            Command::WriteRecord(index) => raw::Command { kind: 2, index, ..none },
+            Command::WriterStep => raw::Command { kind: 3, ..none },
+            Command::BeginCountRead(reader) => raw::Command { kind: 4, reader, ..none },
+            Command::BeginRecordRead { reader, attempts } => raw::Command { kind: 5, reader, attempts, ..none },
+            Command::ReaderStep(reader) => raw::Command { kind: 6, reader, ..none },
+            Command::Cancel(reader) => raw::Command { kind: 7, reader, ..none },
+        }
+    }
 }
 
 /// The bytes of commands.
@@ -144,6 +159,8 @@ pub struct Ran<'a> {
     pub done: usize,
     /// The part of the log that is written.
     pub log: &'a [u8],
+    /// Bytes of the commands carried out: a refused one begins there.
+    pub taken: usize,
     /// The refusal of the command after those, or of the whole run.
     pub ending: Result<(), Refusal>,
 }
@@ -190,12 +207,36 @@ impl Page {
     /// must stay the one that was announced, or a reader may accept a mixture of both.
     pub fn run<'a>(&mut self, records: &[u8], commands: &[u8], log: &'a mut [u8]) -> Ran<'a> {
         let (answer, number) = self.lend(|lent| lent.run(records, commands, log));
-        Ran { done: answer.done, log: &log[..answer.written], ending: ending(number) }
+        Ran { done: answer.done, log: &log[..answer.written], taken: answer.taken, ending: ending(number) }
+    }
+
+    /// Carry out one command; tells how a read ended, if this command ended one. Any refusal but 1, 11 and 12; a
+    /// refused command changes nothing. `records` as for [`Page::run`].
+    pub fn step(&mut self, records: &[u8], command: Command) -> Result<Option<Entry>, Refusal> {
+        let (outcome, number) = self.lend(|lent| lent.step(records, &command.raw()));
+        ending(number)?;
+        Ok(Entry::told(outcome))
     }
 
     /// Drop a reader's read; its buffer keeps its bytes. Refusals 2 and 3 (of the records), 8 and 7.
     pub fn cancel(&mut self, records: &[u8], reader: u8) -> Result<(), Refusal> {
         ending(self.lend(|lent| lent.cancel(records, reader)))
+    }
+
+    /// The readers' states in bytes, [`raw::PACKED`] for each, the same on any machine. Neither the buffers nor the page
+    /// nor its writer are among them.
+    pub fn save(&self) -> Vec<u8> {
+        let mut bytes = vec![0; self.readers.len() * raw::PACKED];
+        let number = raw::pack(&self.readers, &mut bytes);
+        debug_assert_eq!(number, 0);
+        bytes
+    }
+
+    /// The readers' states out of the bytes that [`Page::save`] gave. Refusal 2: they are of another number of readers;
+    /// nothing has changed then. Any other bytes are taken: a state that no steps could hold is refused by the next
+    /// call, by 3. Nothing is promised of reads that go on from a state that was not the page's last one.
+    pub fn restore(&mut self, bytes: &[u8]) -> Result<(), Refusal> {
+        ending(raw::unpack(&mut self.readers, bytes))
     }
 
     /// A call with what it is lent. It is made in here, where its format lives.

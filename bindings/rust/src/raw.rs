@@ -36,13 +36,41 @@ pub struct Reader {
     pub digits: [u8; 16],
 }
 
-/// Mirrors `lagumtay_answer`: commands carried out, and bytes written into the log.
+/// Mirrors `lagumtay_answer`: commands carried out, bytes written into the log, and bytes of the commands carried out.
 #[repr(C)]
 #[derive(Clone, Copy, Debug, Default, PartialEq, Eq)]
 pub struct Answer {
     pub done: usize,
     pub written: usize,
+    pub taken: usize,
 }
+
+/// Mirrors `lagumtay_command`: a command for a step, by the kinds 1 to 7 of the commands' bytes. A field that its kind
+/// does not ask for is not looked at.
+#[repr(C)]
+#[derive(Clone, Copy, Debug, Default, PartialEq, Eq)]
+pub struct Command {
+    pub kind: u8,
+    pub reader: u8,
+    pub attempts: u8,
+    pub index: u16,
+    pub count: u64,
+}
+
+/// Mirrors `lagumtay_outcome`: what a step tells, by the kinds of the log's entries. Kind 0: no read finished; 1: a
+/// count shown; 2: a record accepted; 3: a read gave up. Fields that the kind does not have are zero.
+#[repr(C)]
+#[derive(Clone, Copy, Debug, Default, PartialEq, Eq)]
+pub struct Outcome {
+    pub kind: u8,
+    pub reader: u8,
+    pub attempts: u8,
+    pub version: u32,
+    pub count: u64,
+}
+
+/// How many bytes a reader's state has when it is packed.
+pub const PACKED: usize = 27;
 
 extern "C" {
     fn lagumtay_open(
@@ -79,24 +107,42 @@ extern "C" {
         log_len: usize,
         answer: *mut Answer,
     ) -> u8;
-    fn lagumtay_cancel(
+    fn lagumtay_step(
         format: *const Format,
         bases: *const u16,
         m: usize,
         page: *mut u8,
         page_len: usize,
-        writer: *const Writer,
+        writer: *mut Writer,
         readers: *mut Reader,
         readers_len: usize,
         buffers: *mut u8,
         buffers_len: usize,
         records: *const u8,
         records_len: usize,
+        command: *const Command,
+        outcome: *mut Outcome,
+    ) -> u8;
+    fn lagumtay_cancel(
+        format: *const Format,
+        bases: *const u16,
+        m: usize,
+        page: *const u8,
+        page_len: usize,
+        writer: *const Writer,
+        readers: *mut Reader,
+        readers_len: usize,
+        buffers: *const u8,
+        buffers_len: usize,
+        records: *const u8,
+        records_len: usize,
         who: u8,
     ) -> u8;
+    fn lagumtay_pack(readers: *const Reader, readers_len: usize, bytes: *mut u8, bytes_len: usize) -> u8;
+    fn lagumtay_unpack(readers: *mut Reader, readers_len: usize, bytes: *const u8, bytes_len: usize) -> u8;
 }
 
-/// Calls the archive: the arguments that all three functions begin with, then those of this one.
+/// Calls the archive: the arguments that all functions of a page begin with, then those of this one.
 macro_rules! call {
     ($function:ident, $lent:expr, $($own:expr),+) => {
         $function(
@@ -126,9 +172,9 @@ pub struct Lent<'a> {
     pub buffers: &'a mut [u8],
 }
 
-// The three calls are sound: each pointer comes with its length from a reference that lives through the call, those
-// written through from `&mut`, so that none overlap. The archive answers for any values, touches nothing else, and any
-// bytes that it leaves are values of these types.
+// These calls, and the two below, are sound: each pointer comes with its length from a reference that lives through the
+// call, those written through from `&mut`, so that none overlap. The archive answers for any values, touches nothing
+// else, and any bytes that it leaves are values of these types.
 impl Lent<'_> {
     /// `lagumtay_open`.
     pub fn open(&mut self, count: u64, record: &[u8]) -> u8 {
@@ -139,7 +185,7 @@ impl Lent<'_> {
     #[inline] // so that a caller, in another crate too, takes the answer out of memory itself
     pub fn run(&mut self, records: &[u8], commands: &[u8], log: &mut [u8]) -> (Answer, u8) {
         // No answer that a run gives, so that one that is not written is seen.
-        let mut answer = Answer { done: usize::MAX, written: usize::MAX };
+        let mut answer = Answer { done: usize::MAX, written: usize::MAX, taken: usize::MAX };
         let ending = unsafe {
             call!(
                 lagumtay_run,
@@ -156,10 +202,29 @@ impl Lent<'_> {
         (answer, ending)
     }
 
+    /// `lagumtay_step`.
+    #[inline] // as `run`
+    pub fn step(&mut self, records: &[u8], command: &Command) -> (Outcome, u8) {
+        // No outcome that a step has, so that one that is not written is seen.
+        let mut outcome = Outcome { kind: 255, reader: 255, attempts: 255, version: u32::MAX, count: u64::MAX };
+        let ending = unsafe { call!(lagumtay_step, self, records.as_ptr(), records.len(), command, &mut outcome) };
+        (outcome, ending)
+    }
+
     /// `lagumtay_cancel`.
     pub fn cancel(&mut self, records: &[u8], who: u8) -> u8 {
         unsafe { call!(lagumtay_cancel, self, records.as_ptr(), records.len(), who) }
     }
+}
+
+/// `lagumtay_pack`.
+pub fn pack(readers: &[Reader], bytes: &mut [u8]) -> u8 {
+    unsafe { lagumtay_pack(readers.as_ptr(), readers.len(), bytes.as_mut_ptr(), bytes.len()) }
+}
+
+/// `lagumtay_unpack`.
+pub fn unpack(readers: &mut [Reader], bytes: &[u8]) -> u8 {
+    unsafe { lagumtay_unpack(readers.as_mut_ptr(), readers.len(), bytes.as_ptr(), bytes.len()) }
 }
 
 #[cfg(test)]
@@ -175,10 +240,15 @@ mod tests {
         assert_eq!([offset_of!(Writer, version), offset_of!(Writer, kind)], [24, 28]);
         assert_eq!([offset_of!(Reader, kind), offset_of!(Reader, allowed), offset_of!(Reader, finished)], [0, 1, 2]);
         assert_eq!([offset_of!(Reader, steps), offset_of!(Reader, digits)], [8, 16]);
-        assert_eq!([offset_of!(Answer, done), offset_of!(Answer, written)], [0, 8]);
+        assert_eq!([offset_of!(Answer, done), offset_of!(Answer, written), offset_of!(Answer, taken)], [0, 8, 16]);
+        assert_eq!([offset_of!(Command, kind), offset_of!(Command, reader), offset_of!(Command, attempts)], [0, 1, 2]);
+        assert_eq!([offset_of!(Command, index), offset_of!(Command, count)], [4, 8]);
+        assert_eq!([offset_of!(Outcome, kind), offset_of!(Outcome, reader), offset_of!(Outcome, attempts)], [0, 1, 2]);
+        assert_eq!([offset_of!(Outcome, version), offset_of!(Outcome, count)], [4, 8]);
         assert_eq!([size_of::<Format>(), size_of::<Writer>(), size_of::<Reader>()], [32; 3]);
-        assert_eq!(size_of::<Answer>(), 16);
-        assert_eq!([align_of::<Format>(), align_of::<Writer>(), align_of::<Reader>(), align_of::<Answer>()], [8; 4]);
+        assert_eq!([size_of::<Answer>(), size_of::<Command>(), size_of::<Outcome>()], [24, 16, 16]);
+        assert_eq!([align_of::<Format>(), align_of::<Writer>(), align_of::<Reader>()], [8; 3]);
+        assert_eq!([align_of::<Answer>(), align_of::<Command>(), align_of::<Outcome>()], [8; 3]);
     }
 
     const RECORDS: &[u8; 15] = b"abcdefghijklmno";
@@ -215,8 +285,14 @@ mod tests {
         /// Commands carried out, log bytes written, and the ending.
         fn run(&mut self, commands: &[u8]) -> (usize, usize, u8) {
             let (mut lent, log) = self.lend();
-            let (Answer { done, written }, ending) = lent.run(RECORDS, commands, log);
+            let (Answer { done, written, taken }, ending) = lent.run(RECORDS, commands, log);
+            assert!(if ending == 0 { taken == commands.len() } else { taken < commands.len().max(1) });
             (done, written, ending)
+        }
+
+        /// What a step tells, and the ending.
+        fn step(&mut self, command: Command) -> (Outcome, u8) {
+            self.lend().0.step(RECORDS, &command)
         }
     }
 
@@ -271,5 +347,115 @@ mod tests {
             assert_eq!(memory.run(&[4, 0]), (0, 0, 3));
         }
         assert_eq!(Memory::opened().run(&[4, 0]), (1, 0, 0));
+    }
+
+    #[test]
+    fn a_run_tells_the_bytes_that_it_took() {
+        let mut memory = Memory::opened();
+        let commands = [4, 1, 6, 1, 6, 1, 2, 0, 2, 3, 6, 0, 3];
+        let (mut lent, log) = memory.lend();
+        assert_eq!(lent.run(RECORDS, &commands, log), (Answer { done: 5, written: 0, taken: 10 }, 7));
+        assert_eq!(lent.run(RECORDS, &commands[..10], &mut []), (Answer::default(), 6));
+    }
+
+    /// Each field of a command is asked for by one kind, and each field of an outcome is told by another.
+    #[test]
+    fn steps_read_and_fill_these_fields() {
+        let mut memory = Memory::opened();
+        let nothing = (Outcome::default(), 0);
+        let other = Command { kind: 0, reader: 9, attempts: 9, index: 9, count: 999 };
+        let step = |memory: &mut Memory, reader| memory.step(Command { kind: 6, reader, ..other });
+
+        assert_eq!(memory.step(Command { kind: 1, count: 300, ..other }), nothing);
+        assert_eq!(memory.writer, Writer { count: 300, index: 0, steps: 0, version: 0, kind: 1 });
+        for _ in 0..6 {
+            assert_eq!(memory.step(Command { kind: 3, ..other }), nothing);
+        }
+        assert_eq!(memory.step(Command { kind: 2, index: 2, ..other }), nothing);
+        assert_eq!(memory.writer, Writer { count: 0, index: 2, steps: 0, version: 1, kind: 2 });
+        for _ in 0..9 {
+            assert_eq!(memory.step(Command { kind: 3, ..other }), nothing);
+        }
+
+        assert_eq!(memory.step(Command { kind: 4, reader: 1, ..other }), nothing);
+        for _ in 0..5 {
+            assert_eq!(step(&mut memory, 1), nothing);
+        }
+        assert_eq!(step(&mut memory, 1), (Outcome { kind: 1, reader: 1, count: 300, ..Outcome::default() }, 0));
+
+        assert_eq!(memory.step(Command { kind: 5, reader: 2, attempts: 3, ..other }), nothing);
+        assert_eq!(memory.readers[2], Reader { kind: 2, allowed: 3, ..Reader::default() });
+        for _ in 0..8 {
+            assert_eq!(step(&mut memory, 2), nothing);
+        }
+        let accepted = Outcome { kind: 2, reader: 2, attempts: 1, version: 1, ..Outcome::default() };
+        assert_eq!(step(&mut memory, 2), (accepted, 0));
+        assert_eq!(memory.buffers[10..], RECORDS[10..]);
+
+        // v2 is read before the next write begins, v1 after its first digit.
+        assert_eq!(memory.step(Command { kind: 5, reader: 2, attempts: 1, ..other }), nothing);
+        for _ in 0..2 {
+            assert_eq!(step(&mut memory, 2), nothing);
+        }
+        assert_eq!(memory.step(Command { kind: 2, index: 0, ..other }), nothing);
+        for _ in 0..2 {
+            assert_eq!(memory.step(Command { kind: 3, ..other }), nothing);
+        }
+        for _ in 0..6 {
+            assert_eq!(step(&mut memory, 2), nothing);
+        }
+        let gave_up = Outcome { kind: 3, reader: 2, attempts: 1, ..Outcome::default() };
+        assert_eq!(step(&mut memory, 2), (gave_up, 0));
+
+        assert_eq!(memory.step(Command { kind: 4, reader: 0, ..other }), nothing);
+        assert_eq!(memory.step(Command { kind: 7, reader: 0, ..other }), nothing);
+        assert_eq!(memory.readers, [Reader::default(); 3]);
+    }
+
+    #[test]
+    fn a_refused_step_tells_nothing() {
+        let mut memory = Memory::opened();
+        for (command, why) in [
+            (Command { kind: 0, ..Command::default() }, 11),
+            (Command { kind: 8, ..Command::default() }, 11),
+            (Command { kind: 255, reader: 255, ..Command::default() }, 11),
+            (Command { kind: 1, count: 504, ..Command::default() }, 4),
+            (Command { kind: 1, count: 99, ..Command::default() }, 5),
+            (Command { kind: 2, index: 3, ..Command::default() }, 8),
+            (Command { kind: 3, ..Command::default() }, 7),
+            (Command { kind: 4, reader: 3, ..Command::default() }, 8),
+            (Command { kind: 5, reader: 0, ..Command::default() }, 8),
+            (Command { kind: 6, reader: 255, ..Command::default() }, 8),
+            (Command { kind: 7, reader: 2, ..Command::default() }, 7),
+        ] {
+            assert_eq!(memory.step(command), (Outcome::default(), why));
+        }
+        memory.readers[0].kind = 3;
+        assert_eq!(memory.step(Command { kind: 9, ..Command::default() }), (Outcome::default(), 3));
+    }
+
+    /// Each field has bytes of its own.
+    #[test]
+    fn packs_all_fields() {
+        let digits = std::array::from_fn(|i| 20 + i as u8);
+        let first = Reader { kind: 1, allowed: 2, finished: 3, steps: 0x0405_0607_0809_0a0b, digits };
+        let readers = [first, Reader { kind: 9, ..first }];
+        let mut bytes = [0xee; 2 * PACKED];
+        assert_eq!(pack(&readers, &mut bytes), 0);
+        assert_eq!(bytes[..11], [1, 2, 3, 4, 5, 6, 7, 8, 9, 10, 11]);
+        assert_eq!(bytes[11..PACKED], digits);
+        assert_eq!((bytes[PACKED], &bytes[PACKED + 1..]), (9, &bytes[1..PACKED]));
+        let mut back = [Reader::default(); 2];
+        assert_eq!(unpack(&mut back, &bytes), 0);
+        assert_eq!(back, readers);
+        for length in [0, PACKED, 2 * PACKED - 1] {
+            let mut bytes = [0xee; 2 * PACKED];
+            assert_eq!(pack(&readers, &mut bytes[..length]), 2);
+            assert_eq!(bytes, [0xee; 2 * PACKED]);
+            assert_eq!(unpack(&mut back, &bytes[..length]), 2);
+            assert_eq!(back, readers);
+        }
+        assert_eq!((pack(&[], &mut []), unpack(&mut [], &[])), (0, 0));
+        assert_eq!((pack(&[], &mut [1]), unpack(&mut [], &[1])), (2, 2));
     }
 }

@@ -14,6 +14,7 @@ fn opened(bases: &[u16], count: u64) -> Page {
 fn run(page: &mut Page, list: &[Command]) -> (usize, Vec<Entry>, Result<(), Refusal>) {
     let mut log = [0; 100];
     let ran = page.run(b"bbcc", &commands(list.iter().copied()), &mut log);
+    assert_eq!(ran.taken, commands(list[..ran.done].iter().copied()).len());
     (ran.done, ran.entries().collect(), ran.ending)
 }
 
@@ -56,11 +57,10 @@ fn refuses_openings() {
     assert_eq!(page, before);
 }
 
-#[test]
-fn runs_the_schedule_of_document_01() {
-    let mut page = opened(&[10], 4);
+/// The printed run of document 01.
+fn schedule() -> Vec<Command> {
     let begin = [BeginRecordRead { reader: 0, attempts: 2 }, ReaderStep(0), ReaderStep(0), WriteRecord(0)];
-    let list = [
+    [
         &begin[..],
         &steps(WriterStep, 3),
         &steps(ReaderStep(0), 2),
@@ -68,12 +68,95 @@ fn runs_the_schedule_of_document_01() {
         &steps(ReaderStep(0), 4),
         &[WriteCount(Count(7)), BeginCountRead(0), ReaderStep(0), WriterStep, WriterStep, ReaderStep(0)],
     ]
-    .concat();
-    let accepted = Entry::Accepted { reader: 0, attempts: 2, version: Version(1) };
-    let shown = Entry::Shown { reader: 0, count: Count(7) };
-    assert_eq!(list.len(), 20);
-    assert_eq!(go(&mut page, &list), [accepted, shown]);
+    .concat()
+}
+
+const ACCEPTED: Entry = Entry::Accepted { reader: 0, attempts: 2, version: Version(1) };
+const SHOWN: Entry = Entry::Shown { reader: 0, count: Count(7) };
+
+#[test]
+fn runs_the_schedule_of_document_01() {
+    let mut page = opened(&[10], 4);
+    assert_eq!(schedule().len(), 20);
+    assert_eq!(go(&mut page, &schedule()), [ACCEPTED, SHOWN]);
     assert_eq!(page.buffer(0), Some(&b"bb"[..]));
+}
+
+#[test]
+fn steps_through_the_schedule_of_document_01() {
+    let mut page = opened(&[10], 4);
+    let mut told = Vec::new();
+    for (i, command) in schedule().into_iter().enumerate() {
+        // What was saved and restored goes on where it was.
+        let saved = page.save();
+        let before = page.clone();
+        assert_eq!(page.restore(&saved), Ok(()));
+        assert_eq!(page, before);
+        if let Some(entry) = page.step(b"bbcc", command).unwrap() {
+            told.push((i, entry));
+        }
+    }
+    assert_eq!(told, [(13, ACCEPTED), (19, SHOWN)]);
+    let mut at_once = opened(&[10], 4);
+    go(&mut at_once, &schedule());
+    assert_eq!(page, at_once);
+}
+
+#[test]
+fn a_refused_step_changes_nothing() {
+    let mut page = opened(&[10], 4);
+    go(&mut page, &[BeginCountRead(1)]);
+    let before = page.clone();
+    for (command, why) in [
+        (WriteCount(Count(10)), Refusal::CountTooLarge),
+        (WriteCount(Count(3)), Refusal::CountDecreases),
+        (WriterStep, Refusal::NothingPending),
+        (ReaderStep(0), Refusal::NothingPending),
+        (BeginCountRead(1), Refusal::Busy),
+        (ReaderStep(255), Refusal::NoSuch),
+        (WriteRecord(2), Refusal::NoSuch),
+        (BeginRecordRead { reader: 0, attempts: 0 }, Refusal::NoSuch),
+        (Cancel(0), Refusal::NothingPending),
+    ] {
+        assert_eq!(page.step(b"bbcc", command), Err(why));
+    }
+    assert_eq!(page.step(b"bbc", Cancel(1)), Err(Refusal::WrongLength));
+    assert_eq!(page, before);
+    assert_eq!(page.step(b"", Cancel(1)), Ok(None));
+    assert_eq!(page, opened(&[10], 4));
+}
+
+#[test]
+fn a_step_tells_that_a_read_gave_up() {
+    let mut page = opened(&[10], 4);
+    let list = [BeginRecordRead { reader: 1, attempts: 1 }, ReaderStep(1), WriteRecord(1), WriterStep];
+    go(&mut page, &[&list[..], &steps(ReaderStep(1), 2)].concat());
+    let gave_up = Entry::GaveUp { reader: 1, attempts: 1 };
+    assert_eq!(page.step(b"bbcc", ReaderStep(1)), Ok(Some(gave_up)));
+    assert_eq!(page.buffer(1), Some(&[0, 0][..]));
+}
+
+#[test]
+fn restores_what_was_saved() {
+    let mut page = opened(&[10], 4);
+    go(&mut page, &[BeginCountRead(0), ReaderStep(0), BeginRecordRead { reader: 1, attempts: 3 }]);
+    let saved = page.save();
+    assert_eq!(saved.len(), 54);
+    assert_eq!(saved[..12], [1, 0, 0, 0, 0, 0, 0, 0, 0, 0, 1, 4]);
+    assert_eq!(saved[27..38], [2, 3, 0, 0, 0, 0, 0, 0, 0, 0, 0]);
+    let before = page.clone();
+    for length in [0, 27, 53] {
+        assert_eq!(page.restore(&saved[..length]), Err(Refusal::WrongLength));
+    }
+    assert_eq!(page, before);
+    go(&mut page, &[Cancel(0), Cancel(1)]);
+    assert_eq!(page.restore(&saved), Ok(()));
+    assert_eq!(page, before);
+    assert_eq!(page.step(b"", ReaderStep(0)), Ok(Some(Entry::Shown { reader: 0, count: Count(4) })));
+    // Any bytes are taken; what they say is judged by the next call.
+    assert_eq!(page.restore(&[9; 54]), Ok(()));
+    assert_eq!(page.save(), [9; 54]);
+    assert_eq!(page.step(b"", ReaderStep(0)), Err(Refusal::InvalidState));
 }
 
 #[test]

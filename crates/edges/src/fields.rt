@@ -9,19 +9,35 @@ fn low(x: u64) -> u8 {
     (x % 256) as u8
 }
 
-// A byte of the page; of reader k its kind, attempts allowed and finished, steps, and one of its sixteen digits.
+// A byte of the page; of reader k its kind, attempts allowed and finished, and one of its sixteen digits.
 fn page_or_reader(l: Lent, field: u8, reader: usize, index: usize, x: u64) -> Lent {
     let mut v = l;
     let k = at_most(reader, 15);
     let place = at_most(index, 15);
     match field {
         b'p' => v.page[place] = low(x),
-        b'k' => v.kinds[k] = low(x),
-        b'a' => v.allowed[k] = low(x),
-        b'f' => v.finished[k] = low(x),
-        b's' => v.steps[k] = x as usize,
-        b'd' => v.digits[16 * k + place] = low(x),
+        b'k' => v.states[27 * k] = low(x),
+        b'a' => v.states[27 * k + 1] = low(x),
+        b'f' => v.states[27 * k + 2] = low(x),
+        b'd' => v.states[27 * k + 11 + place] = low(x),
         _ => {}
+    }
+    v
+}
+
+// The steps of reader k: eight bytes, high byte first.
+fn steps(l: Lent, field: u8, reader: usize, x: u64) -> Lent {
+    let mut v = l;
+    if field != b's' {
+        return v;
+    }
+    let k = at_most(reader, 15);
+    let mut left = x;
+    let mut i: usize = 8;
+    while 0 < i {
+        i = i - 1;
+        v.states[27 * k + 3 + i] = low(left);
+        left = left / 256;
     }
     v
 }
@@ -58,7 +74,7 @@ fn number(l: Lent, field: u8, x: u64) -> Lent {
 }
 
 pub(crate) fn set(l: Lent, field: u8, k: usize, place: usize, x: u64) -> Lent {
-    let mut v = page_or_reader(l, field, k, place, x);
+    let mut v = steps(page_or_reader(l, field, k, place, x), field, k, x);
     let w = writer(l.writer, field, x);
     v.writer = w;
     number(v, field, x)

@@ -14,11 +14,8 @@ pub(crate) struct Lent {
     pub(crate) page: [u8; 300],
     pub(crate) long: usize,
     pub(crate) writer: Writer,
-    pub(crate) kinds: [u8; 16],
-    pub(crate) allowed: [u8; 16],
-    pub(crate) finished: [u8; 16],
-    pub(crate) steps: [usize; 16],
-    pub(crate) digits: [u8; 256],
+    pub(crate) states: [u8; 459],
+    pub(crate) kept: usize,
     pub(crate) buffers: [u8; 4400],
     pub(crate) wide: usize,
     pub(crate) records: usize,
@@ -102,11 +99,8 @@ fn of_format(n: Numbers) -> Lent {
         page: [7; 300],
         long: places + places + q + size + q,
         writer: page::resting(),
-        kinds: [7; 16],
-        allowed: [7; 16],
-        finished: [7; 16],
-        steps: [7; 16],
-        digits: [7; 256],
+        states: [7; 459],
+        kept: product(readers, 27),
         buffers: [7; 4400],
         wide: product(readers, size),
         records: size + size,
@@ -122,6 +116,8 @@ fn of_format(n: Numbers) -> Lent {
 fn open(before: Lent, count: Count) -> Lent {
     let mut l = before;
     let f = l.format;
+    let mut states = l.states;
+    let kept = within(l.kept, &states);
     let mut buffers = l.buffers;
     let wide = within(l.wide, &buffers);
     let mut page = l.page;
@@ -130,22 +126,12 @@ fn open(before: Lent, count: Count) -> Lent {
     let m = bases_within(l.places, &bases);
     let record = [97u8; 300];
     let size = within(f.n, &record);
-    let mut kinds = l.kinds;
-    let mut allowed = l.allowed;
-    let mut finished = l.finished;
-    let mut steps = l.steps;
-    let mut digits = l.digits;
-    let o = page::open(
+    let o = page::open_packed(
+        &mut states[..kept],
         f,
         &bases[..m],
         &mut page[..long],
         l.writer,
-        f.readers,
-        &mut kinds,
-        &mut allowed,
-        &mut finished,
-        &mut steps,
-        &mut digits,
         &mut buffers[..wide],
         count,
         &record[..size],
@@ -154,11 +140,7 @@ fn open(before: Lent, count: Count) -> Lent {
     let e = o.ending;
     l.page = page;
     l.writer = w;
-    l.kinds = kinds;
-    l.allowed = allowed;
-    l.finished = finished;
-    l.steps = steps;
-    l.digits = digits;
+    l.states = states;
     l.buffers = buffers;
     l.ending = protocol::ending_number(e);
     l
@@ -174,6 +156,8 @@ pub(crate) fn opened(n: Numbers) -> Lent {
 pub(crate) fn run(before: Lent, commands: &[u8]) -> Lent {
     let mut l = before;
     let f = l.format;
+    let mut states = l.states;
+    let kept = within(l.kept, &states);
     let mut buffers = l.buffers;
     let wide = within(l.wide, &buffers);
     let mut page = l.page;
@@ -184,22 +168,12 @@ pub(crate) fn run(before: Lent, commands: &[u8]) -> Lent {
     let lent = within(l.records, &records);
     let mut log = [7u8; 24];
     let room = within(l.room, &log);
-    let mut kinds = l.kinds;
-    let mut allowed = l.allowed;
-    let mut finished = l.finished;
-    let mut steps = l.steps;
-    let mut digits = l.digits;
-    let r = page::run(
+    let r = page::run_packed(
+        &mut states[..kept],
         f,
         &bases[..m],
         &mut page[..long],
         l.writer,
-        f.readers,
-        &mut kinds,
-        &mut allowed,
-        &mut finished,
-        &mut steps,
-        &mut digits,
         &mut buffers[..wide],
         &records[..lent],
         commands,
@@ -209,11 +183,7 @@ pub(crate) fn run(before: Lent, commands: &[u8]) -> Lent {
     let e = r.ending;
     l.page = page;
     l.writer = w;
-    l.kinds = kinds;
-    l.allowed = allowed;
-    l.finished = finished;
-    l.steps = steps;
-    l.digits = digits;
+    l.states = states;
     l.buffers = buffers;
     l.log = log;
     l.done = r.done;

@@ -1,14 +1,12 @@
--- What an exported call answers, and what was lent as it leaves it: the protocol's own opening and run.
-use mathlib.Core.List.{List, [], _∷_}
+-- What an exported call answers, and what was lent as it leaves it: the protocol's own opening.
+use mathlib.Core.List.{List}
 use Prim.Native.Nat.{ℕ}
 use Rattle.protocol.specs.Form.{Form}
 use Rattle.protocol.specs.Memory.{Memory}
 use Rattle.protocol.specs.Outcome.{endingNumber}
-use Rattle.protocol.specs.Run.{openPage, run, logAfter}
-use Rattle.page.specs.Carry.{ranOf}
-use Rattle.page.specs.declared.Ran.{Ran}
-use Rattle.lagumtay.specs.declared.running.Answer.{Answer}
-use Rattle.lagumtay.specs.declared.running.Told.{Told}
+use Rattle.protocol.specs.Run.{openPage}
+use Rattle.page.specs.Calls.{cancelLent, packAll, unpackAll}
+use Rattle.protocol.specs.declared.Reader.{Reader}
 
 -- AN OPENING OR A CANCELLED READ
 pub record Left : Type 0 where
@@ -21,29 +19,27 @@ left r L = record { refusal = r; memory = L }
 unfoldable pub openCall : Form → Memory → (count : ℕ) → (first : List ℕ) → Left
 openCall F L c r = let o = openPage F L (record { 0 = c }) r in left (endingNumber (o .ending)) (o .memory)
 
--- the run of its one command, with no log
+-- the step of its command
 unfoldable pub cancelCall : Form → (records : List ℕ) → Memory → (who : ℕ) → Left
-cancelCall F S L who =
-    let x = run F S L (record { given = 7 ∷ who ∷ []; log = [] }) in left (endingNumber (x .ending)) (x .memory)
+cancelCall F S L who = let x = cancelLent F S L who in left (endingNumber (x .ending)) (x .memory)
 
--- A RUN
-pub record RanLeft : Type 0 where
+-- READERS' STATES AS BYTES, and back
+pub record PackedLeft : Type 0 where
   pub refusal : ℕ
-  pub answer : Answer
-  pub memory : Memory
-  pub log : List ℕ
+  pub bytes : List ℕ
 
-abbrev pub ranLeft : ℕ → Answer → Memory → (log : List ℕ) → RanLeft
-ranLeft r a L log = record { refusal = r; answer = a; memory = L; log = log }
+abbrev pub packedLeft : ℕ → List ℕ → PackedLeft
+packedLeft r l = record { refusal = r; bytes = l }
 
-abbrev pub answerOf : Ran → Answer
-answerOf r = record { done = r .done; written = r .written }
+unfoldable pub packCall : List Reader → List ℕ → PackedLeft
+packCall rs l = let x = packAll rs l in packedLeft (endingNumber (x .ending)) (x .bytes)
 
-unfoldable pub toldOf : Ran → Told
-toldOf r = record { refusal = endingNumber (r .ending); answer = answerOf r; writer = r .writer }
+pub record UnpackedLeft : Type 0 where
+  pub refusal : ℕ
+  pub readers : List Reader
 
-unfoldable pub runCall : Form → (records : List ℕ) → Memory → (commands log : List ℕ) → RanLeft
-runCall F S L s log =
-    let x = run F S L (record { given = s; log = log }) in
-    ranLeft (endingNumber (x .ending)) (answerOf (ranOf (x .events) (x .ending) (x .memory .writer)))
-    (x .memory) (logAfter (x .events) log)
+abbrev pub unpackedLeft : ℕ → List Reader → UnpackedLeft
+unpackedLeft r rs = record { refusal = r; readers = rs }
+
+unfoldable pub unpackCall : List Reader → List ℕ → UnpackedLeft
+unpackCall rs l = let x = unpackAll rs l in unpackedLeft (endingNumber (x .ending)) (x .readers)

@@ -2,4 +2,6 @@
 // refusal, 0 for none. include/lagumtay.h declares these functions.
 mod cancelling;
 mod opening;
+mod packing;
 mod running;
+mod stepping;

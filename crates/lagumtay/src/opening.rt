@@ -1,7 +1,7 @@
 // The opening over a caller's memory.
 ghost use mathlib.Core.Path.{_≡_};
 ghost use Rattle.protocol.specs.Form.{formOf};
-ghost use Rattle.lent.specs.Calls.{lent};
+ghost use Rattle.page.specs.Carry.{lent};
 ghost use Rattle.lagumtay.specs.Calls.{left, openCall};
 use page::Opened;
 use protocol::Format;
@@ -30,7 +30,7 @@ pub extern "C" fn lagumtay_open(
     let f = *format;
     let w = *writer;
     let first = Count(count);
-    let o = lent::open(readers, f, bases, page, w, buffers, first, record);
+    let o = page::open(readers, f, bases, page, w, buffers, first, record);
     *writer = o.writer;
     let e = o.ending;
     protocol::ending_number(e)

@@ -1,19 +1,20 @@
 // The run over a caller's memory.
 ghost use mathlib.Core.Path.{_≡_};
 ghost use Rattle.protocol.specs.Form.{formOf};
-ghost use Rattle.page.specs.Carry.{Carries};
-ghost use Rattle.lent.specs.Calls.{lent};
-ghost use Rattle.lagumtay.specs.Calls.{ranLeft, runCall, toldOf};
+ghost use Rattle.page.specs.Carry.{lent};
+ghost use Rattle.page.specs.Calls.{Carries};
+ghost use Rattle.lagumtay.specs.Run.{ranLeft, runCall, toldOf};
 use page::Ran;
 use protocol::Format;
 use protocol::Reader;
 use protocol::Writer;
 
-// What a run tells beside its refusal: commands carried out, and bytes written into the log.
+// What a run tells beside its refusal: commands carried out, bytes written into the log, bytes of the commands taken.
 #[repr(C)]
 pub struct Answer {
     pub done: usize,
     pub written: usize,
+    pub taken: usize,
 }
 
 // What a run answers, in the types that leave the library.
@@ -31,6 +32,7 @@ fn tell(r: Ran) -> Told
     let answer = Answer {
         done: r.done,
         written: r.written,
+        taken: r.taken,
     };
     let writer = r.writer;
     Told {
@@ -66,7 +68,7 @@ pub extern "C" fn lagumtay_run(
 {
     let f = *format;
     let w = *writer;
-    let r = lent::run(readers, f, bases, page, w, buffers, records, commands, log);
+    let r = page::run(readers, f, bases, page, w, buffers, records, commands, log);
     let t = tell(r);
     *writer = t.writer;
     *answer = t.answer;

@@ -1,9 +1,6 @@
--- Proofs of page: Laws are cited by the function proofs; the other folders are the theorems behind them.
-pub mod Laws
-pub mod Common
-pub mod Rows
-pub mod Digits
-pub mod Steps
-pub mod Checks
-pub mod Carry
+pub mod Walks
+pub mod Readers
+pub mod Writes
+pub mod Calls
+pub mod Kept
 pub mod Loop

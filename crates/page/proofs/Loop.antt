@@ -1,7 +1,10 @@
--- The start of a run, the opening, and the loop over the commands.
+-- For the proofs of looping and turning: what an answer makes of a standing, and what is no command.
+pub mod Enters
+pub mod NoCommand
+pub mod Turned
+-- For the walk of `run_all`.
+pub mod Taken
 pub mod Going
 pub mod Turns
-pub mod Started
-pub mod Carries
-pub mod Begins
-pub mod Opened
+pub mod Rounds
+pub mod Ends

@@ -1,66 +1,74 @@
-// A cancel of its own, so that the compiled run keeps one caller.
+// A read is cancelled: page and buffers are only read.
 ghost use mathlib.Core.Path.{_≡_};
 ghost use Rattle.protocol.specs.Form.{formOf};
-ghost use Rattle.page.specs.Store.{store};
-ghost use Rattle.page.specs.Carry.{here, cancelledHere, cancelHere};
-use crate::Answer;
-use crate::reader;
-use crate::reader_state;
-use crate::start;
+ghost use Rattle.page.specs.Carry.{lent};
+ghost use Rattle.page.specs.Calls.{endedLent, cancelLent, foundIn, readsIn};
+use crate::opening;
+use crate::starting;
 use protocol::Ending;
 use protocol::Format;
+use protocol::Reader;
 use protocol::Refusal;
 use protocol::Writer;
 
-// A read is cancelled: the run of the one command 07, with no log.
+fn wide(x: u8) -> usize
+    ensures { λ r. ⌜ r ≡ x ⌝ }
+{
+    x as usize
+}
+
+// After the start: is there such a reader?
+fn found(e: Ending, readers: usize, who: usize) -> Ending
+    ensures { λ r. ⌜ r ≡ foundIn e readers who ⌝ }
+{
+    if starting::refuses(e) {
+        return e;
+    }
+    if readers <= who {
+        return Ending::Refused(Refusal::NoSuch);
+    }
+    Ending::Finished
+}
+
+// Has it a read?
+fn reads(r: Reader) -> Ending
+    ensures { λ e. ⌜ e ≡ readsIn r ⌝ }
+{
+    let s = r.stage;
+    if s.kind == 0 {
+        return Ending::Refused(Refusal::NothingPending);
+    }
+    Ending::Finished
+}
+
+// The reader becomes idle, and its buffer stays as it is: the step of the command 07.
 pub fn cancel(
+    readers: &mut [Reader],
     format: Format,
     bases: &[u16],
     page: &[u8],
     writer: Writer,
-    readers: usize,
-    kinds: &mut [u8; 16],
-    allowed: &mut [u8; 16],
-    finished: &mut [u8; 16],
-    steps: &mut [usize; 16],
-    digits: &mut [u8; 256],
     buffers: &[u8],
     records: &[u8],
     who: u8,
 ) -> Ending
-    ensures { λ r. ⌜ cancelledHere r
-        (here (now (page .entry)) writer
-        (store (now (kinds .exit)) (now (allowed .exit)) (now (finished .exit)) (now (steps .exit))
-        (now (digits .exit))) (now (buffers .entry)))
-        ≡ cancelHere (formOf (now (bases .entry)) format) (now (records .entry)) readers
-        (here (now (page .entry)) writer
-        (store (now (kinds .entry)) (now (allowed .entry)) (now (finished .entry)) (now (steps .entry))
-        (now (digits .entry))) (now (buffers .entry))) who ⌝ }
+    ensures { λ r. ⌜ endedLent r (lent (now (page .entry)) writer (now (readers .exit)) (now (buffers .entry)))
+        ≡ cancelLent (formOf (now (bases .entry)) format) (now (records .entry))
+        (lent (now (page .entry)) writer (now (readers .entry)) (now (buffers .entry))) who ⌝ }
 {
-    let e = start::checked(
-        format,
-        bases,
-        page,
-        writer,
-        readers,
-        kinds,
-        allowed,
-        finished,
-        steps,
-        digits,
-        buffers,
-        records,
-    );
-    if let Ending::Refused(why) = e {
-        return Ending::Refused(why);
+    let b = buffers.len();
+    let e = starting::start(readers, format, bases, page, writer, b, records);
+    let n = readers.len();
+    let i = wide(who);
+    let f = found(e, n, i);
+    if starting::refuses(f) {
+        return f;
     }
-    let there = reader_state::index(who) < format.readers;
-    if !there {
-        return Ending::Refused(Refusal::NoSuch);
+    let r = readers[i];
+    let p = reads(r);
+    if starting::refuses(p) {
+        return p;
     }
-    let a = reader::cancel(who, kinds, allowed, finished, steps, digits);
-    match a {
-        Answer::Done(_) => Ending::Finished,
-        Answer::Refused(why) => Ending::Refused(why),
-    }
+    opening::empty(&mut readers[i]);
+    p
 }

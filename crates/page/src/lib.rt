@@ -1,33 +1,39 @@
-// The page library: the opening, the seven commands, the run and a cancel, in forms that the borrow checker covers.
+// The page library: the opening, the run, one command, a cancel, over the caller's slice of readers, in place.
 //
-// The readers' states are kept in five lent arrays of sixteen, one entry (of `digits`, sixteen bytes) for each reader.
+// What a reader or the writer does is over ONE reader, its digits and its buffer lent, and over the writer by value.
+mod begins;
 mod cancelling;
-mod check;
-mod command;
 mod count_read;
-mod decode;
-mod entry;
+mod ends;
+mod looping;
 mod opening;
-mod read;
-mod reader;
-mod reader_check;
-mod reader_state;
+mod packed;
+mod packing;
+mod pen;
+mod reading;
 mod record_read;
-mod runs;
-mod start;
-mod turn;
-mod write;
+mod running;
+mod starting;
+mod stepping;
+mod turning;
+mod write_begin;
+mod write_step;
 mod writing;
 
 pub use cancelling::cancel;
-pub use check::good_format;
 pub use opening::open;
+pub use packed::open_packed;
+pub use packed::run_packed;
+pub use packed::step_packed;
+pub use packing::pack;
+pub use packing::unpack;
+pub use pen::resting;
 use protocol::Ending;
 use protocol::Outcome;
 use protocol::Refusal;
 use protocol::Writer;
-pub use runs::run;
-pub use writing::resting;
+pub use running::run;
+pub use stepping::step;
 
 // What an opening answers, and the writer as it leaves it.
 pub struct Opened {
@@ -35,16 +41,24 @@ pub struct Opened {
     pub writer: Writer,
 }
 
-// What a run answers: commands carried out, bytes written into the log, how it ended; and the writer as it leaves it.
+// What a run answers: commands carried out, bytes of the commands taken, bytes written into the log, how it ended; and
+// the writer as it leaves it.
 pub struct Ran {
     pub done: usize,
+    pub taken: usize,
     pub written: usize,
     pub ending: Ending,
     pub writer: Writer,
 }
 
 // What one command answers.
-pub(crate) enum Answer {
+pub enum Answer {
     Done(Outcome),
     Refused(Refusal),
+}
+
+// What a step answers, and the writer as it leaves it.
+pub struct Stepped {
+    pub answer: Answer,
+    pub writer: Writer,
 }

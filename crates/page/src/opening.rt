@@ -1,22 +1,27 @@
 // The opening: refusals 1, 2 and 4, then the whole page and all states anew.
 ghost use mathlib.Core.Path.{_≡_};
 ghost use mathlib.Core.Bool.{true};
-ghost use mathlib.Core.List.{_++_};
-ghost use Prim.Native.Nat.{_+_, _*_, _≤_, _<_};
+ghost use mathlib.Core.List.{List};
+ghost use Prim.Native.Nat.{_+_, _≤_, _<_};
 ghost use lib.ListN.{length, replicate};
 ghost use Rattle.radix.specs.Digits.{product};
-ghost use Rattle.protocol.specs.Form.{formOf, goodForm, countSteps, recordSteps};
+ghost use Rattle.protocol.specs.Form.{formOf, goodForm};
 ghost use Rattle.protocol.specs.State.{opened};
-ghost use Rattle.page.specs.Store.{store, putReaders, idleReader, Lists16};
-ghost use Rattle.page.specs.Entry.{overlay};
-ghost use Rattle.page.specs.Carry.{here, openedHere, openHere};
+ghost use Rattle.protocol.specs.declared.Reader.{Reader as State};
+ghost use Rattle.codec.specs.Entry.{overlay};
+ghost use Rattle.page.specs.Held.{pageLength};
+ghost use Rattle.page.specs.Carry.{lent, idleReader};
+ghost use Rattle.page.specs.Start.{refusing};
+ghost use Rattle.page.specs.Calls.{openedLent, openLent, openedReaders};
 use crate::Opened;
-use crate::check;
-use crate::reader_state;
-use crate::writing;
+use crate::ends;
+use crate::pen;
+use crate::starting;
+use checks::layout;
 use protocol::Ending;
 use protocol::Format;
-use protocol::Refusal;
+use protocol::Reader;
+use protocol::Stage;
 use protocol::Writer;
 use radix::Count;
 
@@ -25,11 +30,8 @@ fn put_zeros(out: &mut [u8], at: usize, k: usize)
     requires { ⌜ at + k ≤ length (now out) ⌝ }
     ensures { λ r. ⌜ now (out .exit) ≡ overlay (now (out .entry)) at (replicate k 0) ⌝ }
 {
-    let mut i: usize = 0;
-    while i < k {
-        out[at + i] = 0;
-        i = i + 1;
-    }
+    let end = at + k;
+    ends::zero(&mut out[at..end]);
 }
 
 // Bytes from a place on.
@@ -47,96 +49,121 @@ fn put_bytes(out: &mut [u8], at: usize, bytes: &[u8])
 // Both copies of the first count, version 0 twice, the first record.
 fn fill_page(format: Format, bases: &[u16], page: &mut [u8], c: Count, record: &[u8])
     requires { ⌜ (goodForm (formOf (now bases) format) ≡ true)
-        × (length (now page) ≡ countSteps (formOf (now bases) format) + recordSteps (formOf (now bases) format))
+        × (length (now page) ≡ pageLength (formOf (now bases) format))
         × (length (now «record») ≡ format .n)
         × (c .0 < product (now bases)) ⌝ }
     ensures { λ r. ⌜ now (page .exit) ≡ opened (formOf (now (bases .entry)) format) c (now («record» .entry)) .page ⌝ }
 {
     let m = bases.len();
     let q = format.q;
-    let n = format.n;
-    let end = m + m;
+    let end = layout::count_steps(format, bases);
     radix::counts::write(bases, Count(c.0), &mut page[..m]);
     radix::counts::write(bases, Count(c.0), &mut page[m..end]);
-    put_zeros(page, m + m, q);
-    put_bytes(page, m + m + q, record);
-    put_zeros(page, m + m + q + n, q);
+    put_zeros(page, end, q);
+    put_bytes(page, layout::content_start(format, bases), record);
+    put_zeros(page, layout::second_version(format, bases), q);
 }
 
-// All readers become idle.
-fn clear_readers(
-    readers: usize,
-    kinds: &mut [u8; 16],
-    allowed: &mut [u8; 16],
-    finished: &mut [u8; 16],
-    steps: &mut [usize; 16],
-    digits: &mut [u8; 256],
-)
-    requires { ⌜ (readers ≤ 16) × Lists16 (store (now kinds) (now allowed) (now finished) (now steps) (now digits)) ⌝ }
-    ensures { λ r. ⌜ (store (now (kinds .exit)) (now (allowed .exit)) (now (finished .exit)) (now (steps .exit))
-        (now (digits .exit))) ≡ putReaders (replicate readers idleReader)
-        (store (now (kinds .entry)) (now (allowed .entry)) (now (finished .entry)) (now (steps .entry))
-        (now (digits .entry))) ⌝ }
-{
-    let mut i: usize = 0;
-    while i < readers {
-        reader_state::clear(i, kinds, allowed, finished, steps, digits);
-        i = i + 1;
-    }
-}
-
-fn refused(why: Refusal, w: Writer) -> Opened
-    ensures { λ r. ⌜ r ≡ record { ending = Ending.Refused why; writer = w } ⌝ }
+fn refused(e: Ending, w: Writer) -> Opened
+    ensures { λ r. ⌜ r ≡ record { ending = e; writer = w } ⌝ }
 {
     Opened {
-        ending: Ending::Refused(why),
+        ending: e,
         writer: w,
     }
 }
 
-// The opening. What was lent before does not matter; a refused one leaves it as it was.
-pub fn open(
+// The opening over so many readers, but for their states.
+pub(crate) fn open_page(
+    readers: usize,
     format: Format,
     bases: &[u16],
     page: &mut [u8],
     writer: Writer,
-    readers: usize,
-    kinds: &mut [u8; 16],
-    allowed: &mut [u8; 16],
-    finished: &mut [u8; 16],
-    steps: &mut [usize; 16],
-    digits: &mut [u8; 256],
     buffers: &mut [u8],
     count: Count,
     record: &[u8],
 ) -> Opened
-    ensures { λ r. ⌜ openedHere r
-        (here (now (page .exit)) (r .writer)
-        (store (now (kinds .exit)) (now (allowed .exit)) (now (finished .exit)) (now (steps .exit))
-        (now (digits .exit))) (now (buffers .exit)))
-        ≡ openHere (formOf (now (bases .entry)) format) readers
-        (here (now (page .entry)) writer
-        (store (now (kinds .entry)) (now (allowed .entry)) (now (finished .entry)) (now (steps .entry))
-        (now (digits .entry))) (now (buffers .entry))) count (now («record» .entry)) ⌝ }
+    ensures { λ r. ⌜ ((rs : List State) → length rs ≡ readers → openedLent r
+        (lent (now (page .exit)) (r .writer) (openedReaders (r .ending) rs) (now (buffers .exit)))
+        ≡ openLent (formOf (now (bases .entry)) format)
+        (lent (now (page .entry)) writer rs (now (buffers .entry))) count (now («record» .entry))) ⌝ }
 {
-    reader_state::lengths_are(kinds, allowed, finished, steps, digits);
-    if !check::good_format(format, bases) {
-        return refused(Refusal::BadFormat, writer);
-    }
-    if !check::good_lengths(format, bases, page.len(), readers, buffers.len())
-        || record.len() != format.n
-    {
-        return refused(Refusal::WrongLength, writer);
-    }
-    if !check::count_fits(bases, Count(count.0)) {
-        return refused(Refusal::CountTooLarge, writer);
+    let e = checks::opens(
+        format,
+        bases,
+        page.len(),
+        readers,
+        buffers.len(),
+        Count(count.0),
+        record.len(),
+    );
+    if starting::refuses(e) {
+        return refused(e, writer);
     }
     fill_page(format, bases, page, count, record);
-    clear_readers(readers, kinds, allowed, finished, steps, digits);
-    let all = buffers.len();
-    put_zeros(buffers, 0, all);
+    ends::zero(buffers);
     Opened {
         ending: Ending::Finished,
-        writer: writing::resting(),
+        writer: pen::resting(),
     }
+}
+
+pub(crate) fn refuses(o: Opened) -> bool
+    ensures { λ r. ⌜ r ≡ refusing (o .ending) ⌝ }
+{
+    let e = o.ending;
+    starting::refuses(e)
+}
+
+// A reader becomes idle.
+pub(crate) fn empty(r: &mut Reader)
+    ensures { λ _. ⌜ now (r .exit) ≡ idleReader ⌝ }
+{
+    *r = Reader {
+        stage: Stage {
+            kind: 0,
+            allowed: 0,
+            finished: 0,
+            steps: 0,
+        },
+        digits: [0; 16],
+    };
+}
+
+// All readers become idle.
+fn clear(readers: &mut [Reader])
+    ensures { λ _. ⌜ now (readers .exit) ≡ replicate (length (now (readers .entry))) idleReader ⌝ }
+{
+    let mut i: usize = 0;
+    while i < readers.len() {
+        empty(&mut readers[i]);
+        i += 1;
+    }
+}
+
+// What was lent before does not matter; a refused opening leaves it as it was.
+pub fn open(
+    readers: &mut [Reader],
+    format: Format,
+    bases: &[u16],
+    page: &mut [u8],
+    writer: Writer,
+    buffers: &mut [u8],
+    count: Count,
+    record: &[u8],
+) -> Opened
+    ensures { λ r. ⌜ openedLent r
+        (lent (now (page .exit)) (r .writer) (now (readers .exit)) (now (buffers .exit)))
+        ≡ openLent (formOf (now (bases .entry)) format)
+        (lent (now (page .entry)) writer (now (readers .entry)) (now (buffers .entry))) count
+        (now («record» .entry)) ⌝ }
+{
+    let k = readers.len();
+    let o = open_page(k, format, bases, page, writer, buffers, count, record);
+    if refuses(o) {
+        return o;
+    }
+    clear(readers);
+    o
 }

@@ -1,210 +1,184 @@
-// A record read's steps: v2, the bytes, v1, and the end of an attempt.
+// A step of an attempt at a record read: v2 left to right, the bytes, v1 right to left, and the end of the attempt.
 ghost use mathlib.Core.Path.{_≡_};
-ghost use Prim.Native.Nat.{_+_, _*_, _≤_, _<_};
-ghost use lib.ListN.{length, getD};
-ghost use Rattle.protocol.specs.Form.{formOf, recordSteps};
-ghost use Rattle.page.specs.Store.{store};
-ghost use Rattle.page.specs.Reader.{moved, told, versionAt, acceptStore, failStore, endAttemptStore, recordStore};
-ghost use Rattle.page.specs.Reader.{RecordReady, ValidVersion, EndReady};
+ghost use mathlib.Core.Bool.{true, false};
+ghost use Prim.Native.Nat.{_≤_};
+ghost use lib.ListN.{length, replicate};
+ghost use Rattle.radix.specs.Digits.{value, valid};
+ghost use Rattle.radix.specs.Answers.{goodBases};
+ghost use Rattle.protocol.specs.Form.{Form, formOf};
+ghost use Rattle.protocol.specs.Memory.{readerOf};
+ghost use Rattle.protocol.specs.Load.{loadReading};
+ghost use Rattle.checks.specs.Layout.{inContent};
+ghost use Rattle.page.specs.Held.{Fits};
+ghost use Rattle.page.specs.At.{AtRecord};
+ghost use Rattle.page.specs.Left.{leftBy, Leaves, before, stepped, restarted, gaveUp, WholeAttempt, AttemptEnds};
 use crate::Answer;
-use crate::reader_state;
+use crate::ends;
+use crate::ends::Taken;
+use checks::layout;
 use protocol::Format;
 use protocol::Outcome;
 use protocol::Refusal;
+use protocol::Stage;
 use radix::Version;
 use radix::VersionRead;
 
-// The version that q digits from a place on say.
-fn version_at(format: Format, bases: &[u16], digits: &[u8], from: usize) -> Version
-    requires { ⌜ ValidVersion (formOf (now bases) format) (now digits) from ⌝ }
-    ensures { λ r. ⌜ r ≡ versionAt (formOf (now (bases .entry)) format) from (now (digits .entry)) ⌝ }
+// The version that q digits say.
+fn version(base: u16, q: usize, digits: &[u8]) -> Version
+    requires { ⌜ (q ≤ 4) × (goodBases (replicate q base) ≡ true) × (valid (replicate q base) (now digits) ≡ true) ⌝ }
+    ensures { λ r. ⌜ r .0 ≡ value (replicate q base) (now (digits .entry)) ⌝ }
 {
-    let q = format.q;
-    let end = from + q;
-    let v = radix::versions::read(format.base, q, &digits[from..end]);
+    let v = radix::versions::read(base, q, digits);
     let VersionRead::Is(x) = v else {
         return Version(0);
     };
     x
 }
 
-// A whole attempt whose versions are equal. A refused step puts back the digit that the last one stored.
-fn accept(
-    who: u8,
-    room: usize,
-    used: u8,
-    v: Version,
-    kinds: &mut [u8; 16],
-    allowed: &mut [u8; 16],
-    finished: &mut [u8; 16],
-    steps: &mut [usize; 16],
-    digits: &mut [u8; 256],
-) -> Answer
-    requires { ⌜ who < 16 ⌝ }
-    ensures { λ r. ⌜ moved r
-        (store (now (kinds .exit)) (now (allowed .exit)) (now (finished .exit)) (now (steps .exit))
-        (now (digits .exit))) ≡ acceptStore
-        (store (now (kinds .entry)) (now (allowed .entry)) (now (finished .entry)) (now (steps .entry))
-        (now (digits .entry))) who room used v ⌝ }
+// The next attempt begins.
+fn again(stage: Stage, digits: &mut [u8], used: u8) -> Taken
+    requires { ⌜ length (now digits) ≡ 16 ⌝ }
+    ensures { λ r. ⌜ Leaves r (now (digits .exit)) (restarted stage used) ⌝ }
 {
-    let i = reader_state::index(who);
-    if room < 7 {
-        digits[i * 16 + 8] = 0;
-        return Answer::Refused(Refusal::LogFull);
+    ends::zero(digits);
+    let next = Stage {
+        kind: stage.kind,
+        allowed: stage.allowed,
+        finished: used,
+        steps: 0,
+    };
+    Taken {
+        answer: Answer::Done(Outcome::Nothing),
+        stage: next,
     }
-    reader_state::clear(i, kinds, allowed, finished, steps, digits);
-    Answer::Done(Outcome::Accepted {
-        reader: who,
-        attempts: used,
-        version: v,
-    })
 }
 
-// A whole attempt whose versions differ: the next one begins, or the reader gives up.
-fn fail(
+// The last attempt failed: the buffer becomes zeros.
+fn give_up(
     who: u8,
-    room: usize,
+    stage: Stage,
+    digits: &mut [u8],
+    buffer: &mut [u8],
     used: u8,
-    most: u8,
-    n: usize,
-    kinds: &mut [u8; 16],
-    allowed: &mut [u8; 16],
-    finished: &mut [u8; 16],
-    steps: &mut [usize; 16],
-    digits: &mut [u8; 256],
-    buffers: &mut [u8],
-) -> Answer
-    requires { ⌜ (who < 16) × (n ≤ 256) × (who * n + n ≤ length (now buffers)) ×
-        (getD (now finished) who 0 < used) ⌝ }
-    ensures { λ r. ⌜ told r
-        (store (now (kinds .exit)) (now (allowed .exit)) (now (finished .exit)) (now (steps .exit))
-        (now (digits .exit))) (now (buffers .exit)) ≡ failStore n
-        (store (now (kinds .entry)) (now (allowed .entry)) (now (finished .entry)) (now (steps .entry))
-        (now (digits .entry))) (now (buffers .entry)) who room used most ⌝ }
+    room: usize,
+) -> Taken
+    requires { ⌜ length (now digits) ≡ 16 ⌝ }
+    ensures { λ r. ⌜ ((F : Form) → leftBy r (now (digits .exit)) (now (buffer .exit))
+        ≡ gaveUp F who used room (before stage (now (digits .entry))) (now (buffer .entry))) ⌝ }
 {
-    let i = reader_state::index(who);
-    if used < most {
-        reader_state::next_attempt(i, kinds, allowed, finished, steps, digits);
-        return Answer::Done(Outcome::Nothing);
-    }
-    if room < 3 {
-        digits[i * 16 + 8] = 0;
-        return Answer::Refused(Refusal::LogFull);
-    }
-    reader_state::clear(i, kinds, allowed, finished, steps, digits);
-    reader_state::clear_buffer(buffers, i, n);
-    Answer::Done(Outcome::GaveUp {
+    let o = Outcome::GaveUp {
         reader: who,
         attempts: used,
-    })
+    };
+    if room < codec::size(o) {
+        return ends::back(stage, digits, Refusal::LogFull);
+    }
+    ends::zero(buffer);
+    ends::finish(stage, digits, o, room)
 }
 
-// The last step of an attempt: v2 is at the reader's digit 0, v1 at 8.
+// The last step of an attempt, where all digits are there.
 fn end_attempt(
     format: Format,
     bases: &[u16],
-    page: &[u8],
     who: u8,
+    stage: Stage,
+    digits: &mut [u8],
+    buffer: &mut [u8],
     room: usize,
-    kinds: &mut [u8; 16],
-    allowed: &mut [u8; 16],
-    finished: &mut [u8; 16],
-    steps: &mut [usize; 16],
-    digits: &mut [u8; 256],
-    buffers: &mut [u8],
-) -> Answer
-    requires { ⌜ RecordReady (formOf (now bases) format) (now page)
-        (store (now kinds) (now allowed) (now finished) (now steps) (now digits)) (now buffers) who × EndReady
-        (formOf (now bases) format) (now page)
-        (store (now kinds) (now allowed) (now finished) (now steps) (now digits)) who
-        × (getD (now steps) who 0 + 1 ≡ recordSteps (formOf (now bases) format)) ⌝ }
-    ensures { λ r. ⌜ told r
-        (store (now (kinds .exit)) (now (allowed .exit)) (now (finished .exit)) (now (steps .exit))
-        (now (digits .exit))) (now (buffers .exit)) ≡ endAttemptStore (formOf (now (bases .entry)) format)
-        (now (page .entry)) (store (now (kinds .entry)) (now (allowed .entry)) (now (finished .entry))
-        (now (steps .entry)) (now (digits .entry))) (now (buffers .entry)) who room ⌝ }
+) -> Taken
+    requires { ⌜ WholeAttempt (formOf (now bases) format) stage (now digits) (now buffer) ⌝ }
+    ensures { λ r. ⌜ AttemptEnds (formOf (now (bases .entry)) format) who room stage (now (digits .entry))
+        (now (buffer .entry)) (leftBy r (now (digits .exit)) (now (buffer .exit))) ⌝ }
 {
-    let i = reader_state::index(who);
-    let m = bases.len();
-    digits[i * 16 + 8] = page[m + m];
-    let v2 = version_at(format, bases, digits, i * 16);
-    let v1 = version_at(format, bases, digits, i * 16 + 8);
-    let most = reader_state::entry(allowed, i);
-    let used = finished[i] + 1;
+    let q = format.q;
+    let end = 8 + q;
+    let v2 = version(format.base, q, &digits[..q]);
+    let v1 = version(format.base, q, &digits[8..end]);
+    let used = stage.finished + 1;
     if v1.0 == v2.0 {
-        return accept(who, room, used, v1, kinds, allowed, finished, steps, digits);
+        let o = Outcome::Accepted {
+            reader: who,
+            attempts: used,
+            version: v1,
+        };
+        return ends::finish(stage, digits, o, room);
     }
-    fail(
-        who,
-        room,
-        used,
-        most,
-        format.n,
-        kinds,
-        allowed,
-        finished,
-        steps,
-        digits,
-        buffers,
-    )
+    if used < stage.allowed {
+        return again(stage, digits, used);
+    }
+    give_up(who, stage, digits, buffer, used, room)
 }
 
-// v2 left to right, the bytes ascending into the buffer, v1 right to left.
-pub(crate) fn step_record(
+// A step that reads a digit of a version.
+fn take_version(
     format: Format,
     bases: &[u16],
-    page: &[u8],
     who: u8,
+    stage: Stage,
+    digits: &mut [u8],
+    buffer: &mut [u8],
+    digit: u8,
     room: usize,
-    kinds: &mut [u8; 16],
-    allowed: &mut [u8; 16],
-    finished: &mut [u8; 16],
-    steps: &mut [usize; 16],
-    digits: &mut [u8; 256],
-    buffers: &mut [u8],
-) -> Answer
-    requires { ⌜ RecordReady (formOf (now bases) format) (now page)
-        (store (now kinds) (now allowed) (now finished) (now steps) (now digits)) (now buffers) who × EndReady
-        (formOf (now bases) format) (now page)
-        (store (now kinds) (now allowed) (now finished) (now steps) (now digits)) who ⌝ }
-    ensures { λ r. ⌜ told r
-        (store (now (kinds .exit)) (now (allowed .exit)) (now (finished .exit)) (now (steps .exit))
-        (now (digits .exit))) (now (buffers .exit)) ≡ recordStore (formOf (now (bases .entry)) format)
-        (now (page .entry)) (store (now (kinds .entry)) (now (allowed .entry)) (now (finished .entry))
-        (now (steps .entry)) (now (digits .entry))) (now (buffers .entry)) who room ⌝ }
+) -> Taken
+    requires { ⌜ AtRecord (formOf (now bases) format) (readerOf stage (now digits))
+        × Fits (formOf (now bases) format) (loadReading (formOf (now bases) format) (readerOf stage (now digits))) digit
+        × (length (now buffer) ≡ format .n)
+        × (inContent (formOf (now bases) format) (stage .steps) ≡ false) ⌝ }
+    ensures { λ r. ⌜ leftBy r (now (digits .exit)) (now (buffer .exit))
+        ≡ stepped (formOf (now (bases .entry)) format) who digit room (readerOf stage (now (digits .entry)))
+        (now (buffer .entry)) ⌝ }
 {
-    let i = reader_state::index(who);
-    let m = bases.len();
-    let q = format.q;
-    let n = format.n;
-    let k = steps[i];
-    if k < q {
-        digits[i * 16 + k] = page[m + m + q + n + k];
-        steps[i] = k + 1;
-        return Answer::Done(Outcome::Nothing);
+    let k = stage.steps;
+    let p = layout::slot(format.q, layout::version_digits(format, bases, k));
+    digits[p] = digit;
+    if k + 1 < layout::record_steps(format, bases) {
+        let on = Stage {
+            kind: stage.kind,
+            allowed: stage.allowed,
+            finished: stage.finished,
+            steps: k + 1,
+        };
+        return Taken {
+            answer: Answer::Done(Outcome::Nothing),
+            stage: on,
+        };
     }
-    if k < q + n {
-        buffers[i * n + (k - q)] = page[m + m + k];
-        steps[i] = k + 1;
-        return Answer::Done(Outcome::Nothing);
+    end_attempt(format, bases, who, stage, digits, buffer, room)
+}
+
+// One step.
+pub(crate) fn take_record(
+    format: Format,
+    bases: &[u16],
+    who: u8,
+    stage: Stage,
+    digits: &mut [u8],
+    buffer: &mut [u8],
+    digit: u8,
+    room: usize,
+) -> Taken
+    requires { ⌜ AtRecord (formOf (now bases) format) (readerOf stage (now digits))
+        × Fits (formOf (now bases) format) (loadReading (formOf (now bases) format) (readerOf stage (now digits))) digit
+        × (length (now buffer) ≡ format .n) ⌝ }
+    ensures { λ r. ⌜ leftBy r (now (digits .exit)) (now (buffer .exit))
+        ≡ stepped (formOf (now (bases .entry)) format) who digit room (readerOf stage (now (digits .entry)))
+        (now (buffer .entry)) ⌝ }
+{
+    let k = stage.steps;
+    if layout::in_content(format, bases, k) {
+        let at = k - format.q;
+        buffer[at] = digit;
+        let on = Stage {
+            kind: stage.kind,
+            allowed: stage.allowed,
+            finished: stage.finished,
+            steps: k + 1,
+        };
+        return Taken {
+            answer: Answer::Done(Outcome::Nothing),
+            stage: on,
+        };
     }
-    let j = q + n + q - 1 - k;
-    if 0 < j {
-        digits[i * 16 + 8 + j] = page[m + m + j];
-        steps[i] = k + 1;
-        return Answer::Done(Outcome::Nothing);
-    }
-    end_attempt(
-        format,
-        bases,
-        page,
-        who,
-        room,
-        kinds,
-        allowed,
-        finished,
-        steps,
-        digits,
-        buffers,
-    )
+    take_version(format, bases, who, stage, digits, buffer, digit, room)
 }

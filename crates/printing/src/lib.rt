@@ -8,43 +8,21 @@ fn more_follows(from: i32) -> bool {
 }
 
 // One line after another, as they come. What is lent holds sevens before: no line may depend on it.
-fn print_lines(input: &[u8], more: bool, page: &mut [u8], buffers: &mut [u8], to: i32) {
-    let mut kinds = [7u8; 16];
-    let mut allowed = [7u8; 16];
-    let mut finished = [7u8; 16];
-    let mut steps = [7usize; 16];
-    let mut digits = [7u8; 256];
+fn print_lines(
+    input: &[u8],
+    more: bool,
+    page: &mut [u8],
+    states: &mut [u8],
+    buffers: &mut [u8],
+    to: i32,
+) {
     let mut line = [7u8; 640];
-    let s = report::start(
-        input,
-        more,
-        page,
-        page::resting(),
-        &mut kinds,
-        &mut allowed,
-        &mut finished,
-        &mut steps,
-        &mut digits,
-        buffers,
-    );
+    let s = report::start(input, more, page, page::resting(), states, buffers);
     let mut p = s.progress;
     let mut w = s.writer;
     let mut last = false;
     while !last {
-        let t = report::next(
-            input,
-            more,
-            p,
-            page,
-            w,
-            &mut kinds,
-            &mut allowed,
-            &mut finished,
-            &mut steps,
-            &mut digits,
-            buffers,
-            &mut line,
-        );
+        let t = report::next(input, more, p, page, w, states, buffers, &mut line);
         let k = t.written;
         if !io::write_all(to, &line[..k]) {
             return;
@@ -59,10 +37,19 @@ fn print_lines(input: &[u8], more: bool, page: &mut [u8], buffers: &mut [u8], to
 pub fn print_run(input: &[u8], more: bool, to: i32) {
     let s = report::room(input, more);
     let long = s.page;
+    let kept = s.states;
     let wide = s.buffers;
     let mut page = [7u8; 280];
+    let mut states = [7u8; 432];
     let mut buffers = [7u8; 4096];
-    print_lines(input, more, &mut page[..long], &mut buffers[..wide], to);
+    print_lines(
+        input,
+        more,
+        &mut page[..long],
+        &mut states[..kept],
+        &mut buffers[..wide],
+        to,
+    );
 }
 
 // Prints the run of all that is read.

@@ -46,13 +46,13 @@ pub record SixteenOk (bases digits : List ℕ) (g : ℕ) : Type 0 where
 
 -- idle, a count read, a record read; no other kind passes
 pub data ReaderOk (F : Form) (x : Reader) : Type 0 where
-  kind0 : x .kind ≡ 0 → x .allowed ≡ 0 → x .finished ≡ 0 → x .steps ≡ 0 → Zeros (x .digits) → ReaderOk F x
+  kind0 : x .stage .kind ≡ 0 → x .stage .allowed ≡ 0 → x .stage .finished ≡ 0 → x .stage .steps ≡ 0 → Zeros (x .digits) → ReaderOk F x
   kind1 :
-      x .kind ≡ 1 → x .allowed ≡ 0 → x .finished ≡ 0 → x .steps < countSteps F →
-      SixteenOk (F .bases) (x .digits) (x .steps) → ReaderOk F x
+      x .stage .kind ≡ 1 → x .stage .allowed ≡ 0 → x .stage .finished ≡ 0 → x .stage .steps < countSteps F →
+      SixteenOk (F .bases) (x .digits) (x .stage .steps) → ReaderOk F x
   kind2 :
-      x .kind ≡ 2 → x .finished < x .allowed → x .steps < recordSteps F →
-      SixteenOk (versionBases F) (x .digits) (versionDigits F (x .steps)) → ReaderOk F x
+      x .stage .kind ≡ 2 → x .stage .finished < x .stage .allowed → x .stage .steps < recordSteps F →
+      SixteenOk (versionBases F) (x .digits) (versionDigits F (x .stage .steps)) → ReaderOk F x
 
 pub record FieldsOk (F : Form) (S : List ℕ) (L : Memory) : Type 0 where
   pub page : PageOk F (L .page)

@@ -26,10 +26,10 @@ loadDigits w j k l = take k (drop (8 + (w - k)) l) ++ reverse (take j l)
 
 unfoldable pub loadReading : Form → Reader → Reading
 loadReading F x =
-    let g = versionDigits F (x .steps) in
-    cond (eqb (x .kind) 1) (ofCount (loadDigits (m F) (min (x .steps) (m F)) (x .steps - m F) (x .digits)))
-    (cond (eqb (x .kind) 2)
-    (ofRecord (x .allowed) (x .finished) (x .steps) (loadDigits (F .q) (min g (F .q)) (g - F .q) (x .digits)))
+    let g = versionDigits F (x .stage .steps) in
+    cond (eqb (x .stage .kind) 1) (ofCount (loadDigits (m F) (min (x .stage .steps) (m F)) (x .stage .steps - m F) (x .digits)))
+    (cond (eqb (x .stage .kind) 2)
+    (ofRecord (x .stage .allowed) (x .stage .finished) (x .stage .steps) (loadDigits (F .q) (min g (F .q)) (g - F .q) (x .digits)))
     idle)
 
 -- k parts of n bytes
@@ -59,10 +59,10 @@ sameWriter x y =
 
 abbrev pub sameReader : Reader → Reader → Bool
 sameReader x y =
-    eqb (x .kind) (y .kind)
-    && eqb (x .allowed) (y .allowed)
-    && eqb (x .finished) (y .finished)
-    && eqb (x .steps) (y .steps)
+    eqb (x .stage .kind) (y .stage .kind)
+    && eqb (x .stage .allowed) (y .stage .allowed)
+    && eqb (x .stage .finished) (y .stage .finished)
+    && eqb (x .stage .steps) (y .stage .steps)
     && same (x .digits) (y .digits)
 
 -- refusal 3 is given exactly if this fails

@@ -24,20 +24,27 @@ pub struct Writer {
     pub kind: u32,
 }
 
-// A reader's state, document 01's station. Kind 0: idle; 1: a count read; 2: a record read.
+// Where a reader's read stands: attempts allowed and finished, steps taken. Kind 0: idle; 1: a count read; 2: a record
+// read.
 #[repr(C)]
-pub struct Reader {
+pub struct Stage {
     pub kind: u8,
     pub allowed: u8,
     pub finished: u8,
     pub steps: usize,
+}
+
+// A reader's state, document 01's station: it lies in memory as if the five fields stood side by side.
+#[repr(C)]
+pub struct Reader {
+    pub stage: Stage,
     pub digits: [u8; 16],
 }
 
 // Document 01's slips.
 pub enum Command {
     WriteCount(Count),
-    WriteRecord(usize),
+    WriteRecord(u16),
     WriterStep,
     BeginCountRead(u8),
     BeginRecordRead(u8, u8),

@@ -6,7 +6,6 @@ pub mod Founds
 pub mod Parses
 pub mod Taken
 pub mod Spaces
-pub mod Widths
 pub mod Overlays
 pub mod Digits
 pub mod Decimal
@@ -14,5 +13,4 @@ pub mod Counting
 pub mod Spelling
 pub mod Hexes
 pub mod Lines
-pub mod Kinds
 pub mod Parts

@@ -6,16 +6,15 @@ use Prim.Native.Nat.{ℕ, _*_}
 use lib.ListN.{length, drop, replicate}
 use Rattle.protocol.specs.Lists.{concat}
 use Rattle.protocol.specs.State.{opened}
-use Rattle.protocol.specs.Outcome.{entry}
 use Rattle.protocol.specs.Memory.{stored}
 use Rattle.protocol.specs.Run.{Event, Ran, run}
 use Rattle.protocol.specs.declared.Ending.the-variants.{Refused}
 use Rattle.report.specs.Header.{Parsed, refused, header, parse}
-use Rattle.report.specs.Text.{entryLine, endLine}
+use Rattle.report.specs.Text.{outcomeLine, endLine}
 
 -- the line of a command carried out: a record as the buffer held it right after
 abbrev pub lineAfter : (n : ℕ) → Event → List ℕ
-lineAfter n e = entryLine n (concat (e .after .buffers)) (entry (e .outcome))
+lineAfter n e = outcomeLine n (concat (e .after .buffers)) (e .outcome)
 
 abbrev pub listing : (n : ℕ) → Ran → List ℕ
 listing n y = concat (map (lineAfter n) (y .events)) ++ endLine (length (y .events)) (y .ending)

@@ -1,13 +1,13 @@
 -- The lines of the program. Letters are ASCII.
-use mathlib.Core.Path.{_≡_}
 use mathlib.Core.List.{List, [], _∷_, _++_}
 use mathlib.Core.Bool.{cond}
 use Prim.Native.Nat.{ℕ, zero, suc, _+_, _*_, _/_, _%_, _≤_}
-use lib.Dec.{ltb, eqb}
-use lib.ListN.{length, take, drop, getD}
-use Rattle.radix.specs.Digits.{ofBytes}
+use lib.Dec.{ltb}
+use lib.ListN.{length, take, drop}
 use Rattle.protocol.specs.Outcome.{endingNumber}
 use Rattle.protocol.specs.declared.Ending.{Ending}
+use Rattle.protocol.specs.declared.Outcome.{Outcome}
+use Rattle.protocol.specs.declared.Outcome.the-variants.{Nothing, Shown, Accepted, GaveUp}
 
 -- a digit below sixteen: 0 to 9, then a to f
 abbrev pub glyph : ℕ → ℕ
@@ -32,32 +32,32 @@ abbrev pub words : List (List ℕ) → List ℕ
 words [] = 10 ∷ []
 words (w ∷ ws) = 32 ∷ (w ++ words ws)
 
--- THE LINE OF AN ENTRY OF THE LOG: its second byte is the reader, its third the attempts used
+-- THE LINE OF AN OUTCOME: the reader, and what it shows; or the attempts used
 
-abbrev pub shownLine : (entry : List ℕ) → List ℕ
-shownLine e = 67 ∷ words (decimal (getD e 1 0) ∷ decimal (ofBytes (drop 2 e)) ∷ [])
+abbrev pub shownLine : (who shown : ℕ) → List ℕ
+shownLine r c = 67 ∷ words (decimal r ∷ decimal c ∷ [])
 
 -- the record is what the reader's buffer of n bytes holds
-abbrev pub acceptedLine : (n : ℕ) → (buffers entry : List ℕ) → List ℕ
-acceptedLine n buffers e =
-    let record₀ = take n (drop (getD e 1 0 * n) buffers) in
-    82 ∷ words (decimal (getD e 1 0) ∷ decimal (getD e 2 0) ∷ decimal (ofBytes (drop 3 e)) ∷ hex record₀ ∷ [])
+abbrev pub acceptedLine : (n : ℕ) → (buffers : List ℕ) → (who used version : ℕ) → List ℕ
+acceptedLine n buffers r k v =
+    82 ∷ words (decimal r ∷ decimal k ∷ decimal v ∷ hex (take n (drop (r * n) buffers)) ∷ [])
 
-abbrev pub gaveUpLine : (entry : List ℕ) → List ℕ
-gaveUpLine e = 71 ∷ words (decimal (getD e 1 0) ∷ decimal (getD e 2 0) ∷ [])
+abbrev pub gaveUpLine : (who used : ℕ) → List ℕ
+gaveUpLine r k = 71 ∷ words (decimal r ∷ decimal k ∷ [])
 
-unfoldable pub entryLine : (n : ℕ) → (buffers entry : List ℕ) → List ℕ
-entryLine n buffers e =
-    cond (eqb (getD e 0 0) 1) (shownLine e)
-    (cond (eqb (getD e 0 0) 2) (acceptedLine n buffers e) (cond (eqb (getD e 0 0) 3) (gaveUpLine e) []))
+abbrev pub outcomeLine : (n : ℕ) → (buffers : List ℕ) → Outcome → List ℕ
+outcomeLine n buffers Nothing = []
+outcomeLine n buffers (Shown r c) = shownLine r (c .0)
+outcomeLine n buffers (Accepted r k v) = acceptedLine n buffers r k (v .0)
+outcomeLine n buffers (GaveUp r k) = gaveUpLine r k
 
 -- END, commands carried out, the refusal or 0
 unfoldable pub endLine : (done : ℕ) → Ending → List ℕ
 endLine done e = 69 ∷ 78 ∷ 68 ∷ words (decimal done ∷ decimal (endingNumber e) ∷ [])
 
--- what the code asks of an entry: all of it is there, and so is the reader's buffer
-pub record EntryFits (n : ℕ) (buffers entry : List ℕ) : Type 0 where
-  pub small : n ≤ 256
-  pub shown : getD entry 0 0 ≡ 1 → length entry ≡ 10
-  pub accepted : getD entry 0 0 ≡ 2 → (length entry ≡ 7) × (getD entry 1 0 * n + n ≤ length buffers)
-  pub gaveUp : getD entry 0 0 ≡ 3 → length entry ≡ 3
+-- what the code asks of an outcome: the buffer of the reader that accepted is there
+abbrev pub OutcomeFits : (n : ℕ) → (buffers : List ℕ) → Outcome → Type 0
+OutcomeFits n buffers Nothing = Unit {0}
+OutcomeFits n buffers (Shown r c) = Unit {0}
+OutcomeFits n buffers (Accepted r k v) = (n ≤ 256) × (r * n + n ≤ length buffers)
+OutcomeFits n buffers (GaveUp r k) = Unit {0}

@@ -22,16 +22,16 @@ fn base(x: u8) -> u16
     x as u16
 }
 
-// The number that k bytes at a place say, high byte first.
-pub(crate) fn number(s: &[u8], at: usize, k: usize) -> u64
-    requires { ⌜ (k ≤ 8) × (at + k ≤ length (now s)) ⌝ }
-    ensures { λ r. ⌜ r ≡ numberOf k at (now (s .entry)) ⌝ }
+// The number that eight bytes at a place say, high byte first.
+pub(crate) fn number(s: &[u8], at: usize) -> u64
+    requires { ⌜ at + 8 ≤ length (now s) ⌝ }
+    ensures { λ r. ⌜ r ≡ numberOf 8 at (now (s .entry)) ⌝ }
 {
     let mut x: u64 = 0;
-    let mut i: usize = 0;
-    while i < k {
-        x = x * 256 + wide(s[at + i]);
-        i = i + 1;
+    let mut k: usize = 0;
+    while k < 8 {
+        x = x * 256 + wide(s[at + k]);
+        k = k + 1;
     }
     x
 }

@@ -77,7 +77,7 @@ fn parse_rest(s: &[u8], m: usize, f: Format, bases: &[u16]) -> Parsed
     if s.len() < commands {
         return Parsed::Refused(Refusal::WrongLength);
     }
-    let count = Count(bytes::number(s, end, 8));
+    let count = Count(bytes::number(s, end));
     let fits = radix::counts::digit(bases, 0, count);
     let Digit::Is(_) = fits else {
         return Parsed::Refused(Refusal::CountTooLarge);
@@ -108,7 +108,7 @@ pub(crate) fn parse(s: &[u8], more: bool) -> Parsed
     }
     let all = bases(s, m);
     let f = format(s, m);
-    if !page::good_format(f, &all[..m]) {
+    if !checks::good_format(f, &all[..m]) {
         return Parsed::Refused(Refusal::BadFormat);
     }
     parse_rest(s, m, f, &all[..m])

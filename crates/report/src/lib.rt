@@ -11,10 +11,11 @@ pub use opening::start;
 use protocol::Writer;
 pub use turn::next;
 
-// How long the page and all buffers are for an input; 0 if its header is refused.
+// How long the page, all buffers and all states are for an input; 0 if its header is refused.
 pub struct Space {
     pub page: usize,
     pub buffers: usize,
+    pub states: usize,
 }
 
 // How far a printed run has come: where the next command stands in the input, and commands carried out.

@@ -1,77 +1,71 @@
 // The lines C, R, G and END, each from the beginning of what is lent. They answer how long they are.
 ghost use mathlib.Core.Path.{_≡_};
 ghost use Prim.Native.Nat.{_+_, _*_, _≤_};
-ghost use lib.ListN.{length, getD};
-ghost use Rattle.page.specs.Entry.{overlay, added};
-ghost use Rattle.report.specs.Text.{shownLine, acceptedLine, gaveUpLine, entryLine, endLine, EntryFits};
+ghost use lib.ListN.{length};
+ghost use Rattle.codec.specs.Entry.{overlay, added};
+ghost use Rattle.report.specs.Text.{shownLine, acceptedLine, gaveUpLine, outcomeLine, endLine, OutcomeFits};
 use crate::bytes;
 use crate::text;
 use protocol::Ending;
+use protocol::Outcome;
+use radix::Count;
+use radix::Version;
 
-fn put_shown(out: &mut [u8], entry: &[u8]) -> usize
-    requires { ⌜ (640 ≤ length (now out)) × (length (now entry) ≡ 10) ⌝ }
+fn put_shown(out: &mut [u8], who: u8, shown: Count) -> usize
+    requires { ⌜ 640 ≤ length (now out) ⌝ }
     ensures { λ r. ⌜ added (now (out .exit)) r
-        ≡ added (overlay (now (out .entry)) 0 (shownLine (now (entry .entry))))
-        (length (shownLine (now (entry .entry)))) ⌝ }
+        ≡ added (overlay (now (out .entry)) 0 (shownLine who (shown .0))) (length (shownLine who (shown .0))) ⌝ }
 {
     let a = text::put_letter(out, 0, 67);
-    let b = text::put_word(out, a, bytes::wide(entry[1]));
-    let c = text::put_word(out, b, bytes::number(entry, 2, 8));
+    let b = text::put_word(out, a, bytes::wide(who));
+    let c = text::put_word(out, b, shown.0);
     text::put_letter(out, c, 10)
 }
 
-fn put_accepted(out: &mut [u8], n: usize, buffers: &[u8], entry: &[u8]) -> usize
-    requires { ⌜ (640 ≤ length (now out))
-        × (length (now entry) ≡ 7)
-        × (n ≤ 256)
-        × (getD (now entry) 1 0 * n + n ≤ length (now buffers)) ⌝ }
+fn put_accepted(out: &mut [u8], n: usize, buffers: &[u8], who: u8, used: u8, v: Version) -> usize
+    requires { ⌜ (640 ≤ length (now out)) × (n ≤ 256) × (who * n + n ≤ length (now buffers)) ⌝ }
     ensures { λ r. ⌜ added (now (out .exit)) r
-        ≡ added (overlay (now (out .entry)) 0 (acceptedLine n (now (buffers .entry)) (now (entry .entry))))
-        (length (acceptedLine n (now (buffers .entry)) (now (entry .entry)))) ⌝ }
+        ≡ added (overlay (now (out .entry)) 0 (acceptedLine n (now (buffers .entry)) who used (v .0)))
+        (length (acceptedLine n (now (buffers .entry)) who used (v .0))) ⌝ }
 {
-    let from = bytes::index(entry[1]) * n;
+    let from = bytes::index(who) * n;
     let to = from + n;
     let a = text::put_letter(out, 0, 82);
-    let b = text::put_word(out, a, bytes::wide(entry[1]));
-    let c = text::put_word(out, b, bytes::wide(entry[2]));
-    let d = text::put_word(out, c, bytes::number(entry, 3, 4));
+    let b = text::put_word(out, a, bytes::wide(who));
+    let c = text::put_word(out, b, bytes::wide(used));
+    let d = text::put_word(out, c, v.0 as u64);
     let e = text::put_hex_word(out, d, &buffers[from..to]);
     text::put_letter(out, e, 10)
 }
 
-fn put_gave_up(out: &mut [u8], entry: &[u8]) -> usize
-    requires { ⌜ (640 ≤ length (now out)) × (length (now entry) ≡ 3) ⌝ }
+fn put_gave_up(out: &mut [u8], who: u8, used: u8) -> usize
+    requires { ⌜ 640 ≤ length (now out) ⌝ }
     ensures { λ r. ⌜ added (now (out .exit)) r
-        ≡ added (overlay (now (out .entry)) 0 (gaveUpLine (now (entry .entry))))
-        (length (gaveUpLine (now (entry .entry)))) ⌝ }
+        ≡ added (overlay (now (out .entry)) 0 (gaveUpLine who used)) (length (gaveUpLine who used)) ⌝ }
 {
     let a = text::put_letter(out, 0, 71);
-    let b = text::put_word(out, a, bytes::wide(entry[1]));
-    let c = text::put_word(out, b, bytes::wide(entry[2]));
+    let b = text::put_word(out, a, bytes::wide(who));
+    let c = text::put_word(out, b, bytes::wide(used));
     text::put_letter(out, c, 10)
 }
 
-// The line of an entry of the log; none, if there is no entry.
-pub(crate) fn put(out: &mut [u8], n: usize, buffers: &[u8], entry: &[u8]) -> usize
-    requires { ⌜ (640 ≤ length (now out)) × EntryFits n (now buffers) (now entry) ⌝ }
+// The line of an outcome; most have none.
+pub(crate) fn put(out: &mut [u8], n: usize, buffers: &[u8], o: Outcome) -> usize
+    requires { ⌜ (640 ≤ length (now out)) × OutcomeFits n (now buffers) o ⌝ }
     ensures { λ r. ⌜ added (now (out .exit)) r
-        ≡ added (overlay (now (out .entry)) 0 (entryLine n (now (buffers .entry)) (now (entry .entry))))
-        (length (entryLine n (now (buffers .entry)) (now (entry .entry)))) ⌝ }
+        ≡ added (overlay (now (out .entry)) 0 (outcomeLine n (now (buffers .entry)) o))
+        (length (outcomeLine n (now (buffers .entry)) o)) ⌝ }
 {
-    if entry.len() == 0 {
-        return 0;
+    match o {
+        Outcome::Nothing => 0,
+        Outcome::Shown { reader, count } => put_shown(out, reader, count),
+        Outcome::Accepted {
+            reader,
+            attempts,
+            version,
+        } => put_accepted(out, n, buffers, reader, attempts, version),
+        Outcome::GaveUp { reader, attempts } => put_gave_up(out, reader, attempts),
     }
-    let kind = entry[0];
-    if kind == 1 {
-        return put_shown(out, entry);
-    }
-    if kind == 2 {
-        return put_accepted(out, n, buffers, entry);
-    }
-    if kind == 3 {
-        return put_gave_up(out, entry);
-    }
-    0
 }
 
 // The last line.

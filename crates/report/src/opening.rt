@@ -1,8 +1,7 @@
 // Where a printed run begins.
 ghost use mathlib.Core.Path.{_≡_};
 ghost use Prim.Native.Nat.{_≤_};
-ghost use Rattle.page.specs.Store.{store};
-ghost use Rattle.page.specs.Carry.{here};
+ghost use Rattle.page.specs.Kept.{kept};
 ghost use Rattle.report.specs.Header.{parse as parseOf};
 ghost use Rattle.report.specs.Turn.{spaceOf, startOf};
 ghost use Rattle.report.specs.Calls.{started};
@@ -13,16 +12,17 @@ use crate::header;
 use crate::header::Parsed;
 use protocol::Writer;
 
-// How long the page and all buffers are.
+// How long the page, all buffers and all states are.
 pub fn room(input: &[u8], more: bool) -> Space
     ensures { λ r. ⌜ r ≡ spaceOf (parseOf more (now (input .entry))) ⌝ }
-    ensures { λ r. ⌜ (r .page ≤ 280) × (r .buffers ≤ 4096) ⌝ }
+    ensures { λ r. ⌜ (r .page ≤ 280) × (r .buffers ≤ 4096) × (r .states ≤ 432) ⌝ }
 {
     let p = header::parse(input, more);
     let Parsed::Is(h) = p else {
         return Space {
             page: 0,
             buffers: 0,
+            states: 0,
         };
     };
     let m = h.m;
@@ -30,6 +30,7 @@ pub fn room(input: &[u8], more: bool) -> Space
     Space {
         page: m + m + f.q + f.n + f.q,
         buffers: f.readers * f.n,
+        states: f.readers * 27,
     }
 }
 
@@ -39,21 +40,12 @@ pub fn start(
     more: bool,
     page: &mut [u8],
     writer: Writer,
-    kinds: &mut [u8; 16],
-    allowed: &mut [u8; 16],
-    finished: &mut [u8; 16],
-    steps: &mut [usize; 16],
-    digits: &mut [u8; 256],
+    states: &mut [u8],
     buffers: &mut [u8],
 ) -> Started
-    ensures { λ r. ⌜ started r
-        (here (now (page .exit)) (r .writer)
-        (store (now (kinds .exit)) (now (allowed .exit)) (now (finished .exit)) (now (steps .exit))
-        (now (digits .exit))) (now (buffers .exit)))
-        ≡ startOf
-        (here (now (page .entry)) writer
-        (store (now (kinds .entry)) (now (allowed .entry)) (now (finished .entry)) (now (steps .entry))
-        (now (digits .entry))) (now (buffers .entry))) (parseOf more (now (input .entry))) ⌝ }
+    ensures { λ r. ⌜ started r (kept (now (page .exit)) (r .writer) (now (states .exit)) (now (buffers .exit)))
+        ≡ startOf (kept (now (page .entry)) writer (now (states .entry)) (now (buffers .entry)))
+        (parseOf more (now (input .entry))) ⌝ }
 {
     let p = header::parse(input, more);
     let Parsed::Is(h) = p else {
@@ -67,17 +59,12 @@ pub fn start(
     let all = header::bases(input, m);
     let from = h.first;
     let to = from + f.n;
-    let o = page::open(
+    let o = page::open_packed(
+        states,
         f,
         &all[..m],
         page,
         writer,
-        f.readers,
-        kinds,
-        allowed,
-        finished,
-        steps,
-        digits,
         buffers,
         h.count,
         &input[from..to],

@@ -3,7 +3,7 @@ ghost use mathlib.Core.Path.{_≡_};
 ghost use mathlib.Core.List.{[], _∷_};
 ghost use Prim.Native.Nat.{_+_, _*_, _≤_, _<_};
 ghost use lib.ListN.{length};
-ghost use Rattle.page.specs.Entry.{overlay, added};
+ghost use Rattle.codec.specs.Entry.{overlay, added};
 ghost use Rattle.report.specs.Text.{decimal, hex};
 ghost use Rattle.report.specs.Text.{glyph as glyphOf};
 

@@ -1,15 +1,14 @@
 // One turn after another.
 ghost use mathlib.Core.Path.{_≡_};
-ghost use Prim.Native.Nat.{_+_, _≤_, _<_};
-ghost use lib.ListN.{length, drop};
-ghost use Rattle.page.specs.Store.{store};
-ghost use Rattle.page.specs.Carry.{here};
-ghost use Rattle.page.specs.Entry.{overlay};
 ghost use mathlib.Core.Bool.{true, false};
+ghost use Prim.Native.Nat.{_+_, _≤_, _<_};
+ghost use lib.ListN.{length};
+ghost use Rattle.codec.specs.Entry.{overlay};
+ghost use Rattle.page.specs.Kept.{kept};
 ghost use Rattle.report.specs.Header.{header, headerIn, parse as parseOf};
 ghost use Rattle.report.specs.Found.{foundIn};
 ghost use Rattle.report.specs.Text.{endLine};
-ghost use Rattle.report.specs.Turn.{turnOf, carryOut, nextWidth};
+ghost use Rattle.report.specs.Turn.{turnOf, carryOut};
 ghost use Rattle.report.specs.Calls.{toldAll, toldFrom};
 use crate::Progress;
 use crate::Told;
@@ -17,6 +16,8 @@ use crate::header;
 use crate::header::Header;
 use crate::header::Parsed;
 use crate::line;
+use codec::Decoded;
+use page::Answer;
 use protocol::Ending;
 use protocol::Refusal;
 use protocol::Writer;
@@ -35,38 +36,15 @@ fn ends(p: Progress, w: Writer, e: Ending, line: &mut [u8; 640]) -> Told
     }
 }
 
-// How many bytes the command at a place has; all that are left, if there is none.
-fn width(input: &[u8], at: usize) -> usize
-    requires { ⌜ at < length (now input) ⌝ }
-    ensures { λ r. ⌜ r ≡ nextWidth (drop at (now (input .entry))) ⌝ }
-{
-    let kind = input[at];
-    let left = input.len() - at;
-    let size = match kind {
-        1 => 9,
-        2 => 3,
-        3 => 1,
-        4 => 2,
-        5 => 3,
-        6 => 2,
-        7 => 2,
-        _ => left,
-    };
-    if left < size { left } else { size }
-}
-
-// The command at the run's place, in a run of its own, and its line.
+// The command at the run's place, in a step of its own, and its line. What is no command ends the turns as a run of it
+// does: refusals 1 to 3 come before refusal 11.
 fn carry_out(
     input: &[u8],
     h: Header,
     p: Progress,
     page: &mut [u8],
     writer: Writer,
-    kinds: &mut [u8; 16],
-    allowed: &mut [u8; 16],
-    finished: &mut [u8; 16],
-    steps: &mut [usize; 16],
-    digits: &mut [u8; 256],
+    states: &mut [u8],
     buffers: &mut [u8],
     line: &mut [u8; 640],
 ) -> Told
@@ -74,56 +52,62 @@ fn carry_out(
         × (parseOf false (now input) ≡ header (headerIn (now input)))
         × (p .at < length (now input))
         × (p .done ≤ p .at) ⌝ }
-    ensures { λ r. ⌜ toldAll r
-        (here (now (page .exit)) (r .writer)
-        (store (now (kinds .exit)) (now (allowed .exit)) (now (finished .exit)) (now (steps .exit))
-        (now (digits .exit))) (now (buffers .exit))) (now (line .exit))
+    ensures { λ r. ⌜ toldAll r (kept (now (page .exit)) (r .writer) (now (states .exit)) (now (buffers .exit)))
+        (now (line .exit))
         ≡ toldFrom (now (line .entry))
         (carryOut (now (input .entry)) (headerIn (now (input .entry))) p
-        (here (now (page .entry)) writer
-        (store (now (kinds .entry)) (now (allowed .entry)) (now (finished .entry)) (now (steps .entry))
-        (now (digits .entry))) (now (buffers .entry)))) ⌝ }
+        (kept (now (page .entry)) writer (now (states .entry)) (now (buffers .entry)))) ⌝ }
 {
     let at = p.at;
     let m = h.m;
     let f = h.format;
     let from = h.records;
     let to = h.commands;
-    let size = width(input, at);
-    let end = at + size;
     let all = header::bases(input, m);
-    let mut log = [0u8; 10];
-    let r = page::run(
+    let d = codec::decode(input, at);
+    let Decoded::Is(x, after) = d else {
+        let mut log = [0u8; 1];
+        let r = page::run_packed(
+            states,
+            f,
+            &all[..m],
+            page,
+            writer,
+            buffers,
+            &input[from..to],
+            &input[at..],
+            &mut log,
+        );
+        let e = r.ending;
+        let w = r.writer;
+        return ends(p, w, e, line);
+    };
+    let s = page::step_packed(
+        states,
         f,
         &all[..m],
         page,
         writer,
-        f.readers,
-        kinds,
-        allowed,
-        finished,
-        steps,
-        digits,
         buffers,
         &input[from..to],
-        &input[at..end],
-        &mut log,
+        x,
     );
-    let e = r.ending;
-    let w = r.writer;
-    if let Ending::Refused(why) = e {
-        return ends(p, w, Ending::Refused(why), line);
-    }
-    let k = r.written;
-    let written = line::put(line, f.n, buffers, &log[..k]);
-    Told {
-        written: written,
-        last: false,
-        progress: Progress {
-            at: end,
-            done: p.done + 1,
-        },
-        writer: w,
+    let a = s.answer;
+    let w = s.writer;
+    match a {
+        Answer::Refused(why) => ends(p, w, Ending::Refused(why), line),
+        Answer::Done(o) => {
+            let written = line::put(line, f.n, buffers, o);
+            Told {
+                written: written,
+                last: false,
+                progress: Progress {
+                    at: after,
+                    done: p.done + 1,
+                },
+                writer: w,
+            }
+        }
     }
 }
 
@@ -134,23 +118,15 @@ pub fn next(
     p: Progress,
     page: &mut [u8],
     writer: Writer,
-    kinds: &mut [u8; 16],
-    allowed: &mut [u8; 16],
-    finished: &mut [u8; 16],
-    steps: &mut [usize; 16],
-    digits: &mut [u8; 256],
+    states: &mut [u8],
     buffers: &mut [u8],
     line: &mut [u8; 640],
 ) -> Told
-    ensures { λ r. ⌜ toldAll r
-        (here (now (page .exit)) (r .writer)
-        (store (now (kinds .exit)) (now (allowed .exit)) (now (finished .exit)) (now (steps .exit))
-        (now (digits .exit))) (now (buffers .exit))) (now (line .exit))
+    ensures { λ r. ⌜ toldAll r (kept (now (page .exit)) (r .writer) (now (states .exit)) (now (buffers .exit)))
+        (now (line .exit))
         ≡ toldFrom (now (line .entry))
-        (turnOf (now (input .entry)) p
-        (here (now (page .entry)) writer
-        (store (now (kinds .entry)) (now (allowed .entry)) (now (finished .entry)) (now (steps .entry))
-        (now (digits .entry))) (now (buffers .entry))) (parseOf more (now (input .entry)))) ⌝ }
+        (turnOf (now (input .entry)) p (kept (now (page .entry)) writer (now (states .entry)) (now (buffers .entry)))
+        (parseOf more (now (input .entry)))) ⌝ }
     ensures { λ r. ⌜ (r .last ≡ false → (p .at < r .progress .at) × (r .progress .at ≤ length (now (input .entry)))) ⌝ }
     ensures { λ r. ⌜ r .written ≤ length (now (line .exit)) ⌝ }
 {
@@ -164,20 +140,7 @@ pub fn next(
             if p.at == input.len() {
                 return ends(p, writer, Ending::Finished, line);
             }
-            carry_out(
-                input,
-                h,
-                p,
-                page,
-                writer,
-                kinds,
-                allowed,
-                finished,
-                steps,
-                digits,
-                buffers,
-                line,
-            )
+            carry_out(input, h, p, page, writer, states, buffers, line)
         }
     }
 }

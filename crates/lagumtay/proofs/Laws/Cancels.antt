@@ -1,4 +1,4 @@
--- What a cancelled read of `lent` answers, with the number of its ending, is what our contract says.
+-- What a cancelled read of `page` answers, with the number of its ending, is what our contract says.
 use mathlib.Core.Path.{_≡_, ap}
 use Prim.Native.Nat.{ℕ}
 use mathlib.Core.List.{List}
@@ -6,7 +6,7 @@ use Rattle.protocol.specs.Form.{Form}
 use Rattle.protocol.specs.Memory.{Memory}
 use Rattle.protocol.specs.Outcome.{endingNumber}
 use Rattle.protocol.specs.declared.Ending.{Ending}
-use Rattle.lent.specs.Calls.{EndedLent, endedLent, cancelLent}
+use Rattle.page.specs.Calls.{EndedLent, endedLent, cancelLent}
 use Rattle.lagumtay.specs.Calls.{left, cancelCall}
 
 pub cancelled :

@@ -6,7 +6,7 @@ use Rattle.protocol.specs.Form.{Form}
 use Rattle.protocol.specs.Memory.{Memory}
 use Rattle.protocol.specs.Outcome.{endingNumber}
 use Rattle.page.specs.declared.Opened.{Opened}
-use Rattle.lent.specs.Calls.{OpenedLent, openedLent, openLent}
+use Rattle.page.specs.Calls.{OpenedLent, openedLent, openLent}
 use Rattle.lagumtay.specs.Calls.{left, openCall}
 
 pub opened-left :

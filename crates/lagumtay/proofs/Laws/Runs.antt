@@ -1,4 +1,4 @@
--- What lent's run says of its answer, as the exported run says it of what is told.
+-- What `page::run` says of its answer, as the exported run says it of what is told.
 use mathlib.Core.Path.{_≡_, ap, _∙_}
 use mathlib.Core.List.{List}
 use Prim.Native.Nat.{ℕ}
@@ -7,8 +7,9 @@ use Rattle.protocol.specs.Memory.{Memory}
 use Rattle.protocol.specs.Outcome.{endingNumber}
 use Rattle.protocol.specs.declared.Reader.{Reader}
 use Rattle.page.specs.declared.Ran.{Ran}
-use Rattle.lent.specs.Calls.{lent, RanLent, ranLent, runLent}
-use Rattle.lagumtay.specs.Calls.{RanLeft, ranLeft, answerOf, toldOf, runCall}
+use Rattle.page.specs.Carry.{lent}
+use Rattle.page.specs.Calls.{RanLent, ranLent, runLent}
+use Rattle.lagumtay.specs.Run.{RanLeft, ranLeft, answerOf, toldOf, runCall}
 use Rattle.lagumtay.specs.declared.running.Told.{Told}
 
 module _

@@ -1,4 +1,4 @@
--- `numbers`: a call of `protocol::ending_number`. And its answer is well typed.
+-- `numbers`: a call of `protocol::ending_number`. And an ending and its number are well typed.
 use mathlib.Core.Path.{_≡_, subst}
 use Prim.Native.Nat.{ℕ}
 use mathlib.Core.List.{List, [], _∷_}
@@ -36,6 +36,9 @@ abbrev R : RattleType
 R = T.the-row
 
 module _ {M : Type 1} (𝓤 : URA M) (H : Heap 𝓤) (A : Atoms 𝓤) where
+  pub typed-ending : Given 𝓤 H A → (e : Ending) (v : Val) → Is R e (v ∷ []) → Holds (hasTy T′.mir v) × WT v
+  typed-ending W e v is = EL.lawful T.the-type T′.the-laws 𝓤 H A W tt .typed e (v ∷ []) is .0
+
   pub typed-number : Given 𝓤 H A → (n : ℕ) (w : Val) → Is u8 n (w ∷ []) → Holds (hasTy (tyInt w8) w) × WT w
   typed-number W n w is = uint-lawful 𝓤 H A W w8 .typed n (w ∷ []) is .0
 

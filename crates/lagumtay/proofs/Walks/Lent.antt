@@ -1,5 +1,5 @@
 -- What each exported call is lent first: format, bases, page, writer, readers and buffers. What locals hold of it; what
--- `lent` is handed of it, in its own order; and the last values of that.
+-- `page` is handed of it, in its own order; and the last values of that.
 use Prim.Native.Nat.{ℕ}
 use mathlib.Core.List.{List, _∷_}
 use lib.ListN.{length}
@@ -16,9 +16,9 @@ use Rattle.protocol.proofs.Format as TF
 use Rattle.protocol.proofs.Format.Laws as TF′
 use Rattle.protocol.proofs.Writer as TW
 use Rattle.protocol.proofs.Writer.Laws as TW′
-use Rattle.lent.specs.Calls.{lent}
-use Rattle.lent.proofs.Walks.Rules.Flat.{_&_}
-use Rattle.lent.proofs.Walks.Rules.Locals.{Slot, has}
+use Rattle.page.specs.Carry.{lent}
+use Rattle.page.proofs.Walks.Rules.Flat.{_&_}
+use Rattle.page.proofs.Walks.Rules.Locals.{Slot, has}
 
 -- the machine value of a lent list, and of a lent struct
 abbrev pub the : {X : Type 0} → RefT (List X) → Val
@@ -27,11 +27,15 @@ the x = sliceVal (x .ptr) (length (x .now))
 abbrev pub spot : {X : Type 0} → RefT X → Val
 spot x = vptr (x .ptr .0) (x .ptr .1)
 
+-- the locals that hold what is lent on of it, as `&mut`
+abbrev pub lent-on : {X : Type 0} → RefT (List X) → List Slot → List Slot
+lent-on x ss = has (spot x) ∷ has (the x) ∷ ss
+
 -- one of each type, before what else there is
 abbrev Six : Type 0 → Type 0 → Type 0 → Type 0 → Type 0 → Type 0 → Type 0 → Type 0
 Six A B C D E F X = A × (B × (C × (D × (E × (F × X)))))
 
--- lifetimes, or their shares, in `lent`'s order: those of the readers, the bases, the page and the buffers
+-- lifetimes, or their shares, in `page`'s order: those of the readers, the bases, the page and the buffers
 abbrev pub in-order : {L X Y : Type 0} → Six L L L L L L X → Y → L × (L × (L × (L × Y)))
 in-order κs y = κs .1 .1 .1 .1 .0 & κs .1 .0 & κs .1 .1 .0 & κs .1 .1 .1 .1 .1 .0 & y
 
@@ -75,17 +79,15 @@ module _ {X : Type 0} (a : Six (RefT Format) (RefT (List ℕ)) (RefT (List ℕ))
       has (spot format) ∷ has (the bases) ∷ has (the page) ∷ has (spot writer) ∷ has (the readers) ∷ has (the buffers) ∷
       ss
 
-  -- the format and the writer are loaded, and the slices are lent on
+  -- the format and the writer are loaded, and the page, the readers and the buffers are lent on
   abbrev pub loaded : List Slot → List Slot
   loaded ss =
       has (LL.val TF.the-type TF′.the-laws (format .now)) ∷ has (LL.val TW.the-type TW′.the-laws (writer .now)) ∷ ss
 
-  abbrev pub lent-on : List Slot → List Slot
-  lent-on ss =
-      has (spot readers) ∷ has (the readers) ∷ has (spot page) ∷ has (the page) ∷ has (spot buffers) ∷
-      has (the buffers) ∷ ss
+  abbrev pub all-lent-on : List Slot → List Slot
+  all-lent-on ss = lent-on readers (lent-on page (lent-on buffers ss))
 
-  -- what `lent` gets, and its machine values
+  -- what `page` gets, and its machine values
   abbrev pub handed : {Y : Type 0} → Y
       → Six (RefT (List Reader)) Format (RefT (List ℕ)) (RefT (List ℕ)) Writer (RefT (List ℕ)) Y
   handed y = readers & format .now & bases & page & writer .now & buffers & y
@@ -95,7 +97,7 @@ module _ {X : Type 0} (a : Six (RefT Format) (RefT (List ℕ)) (RefT (List ℕ))
       slice-vals readers & LL.vals TF.the-type TF′.the-laws (format .now) & slice-vals bases & slice-vals page &
       LL.vals TW.the-type TW′.the-laws (writer .now) & slice-vals buffers & y
 
--- the last values, in `lent`'s order
+-- the last values, in `page`'s order
 module _ {Y : Type 0} (ls : Six (List Reader) (Unit {0}) (Unit {0}) (List ℕ) (Unit {0}) (List ℕ) Y) where
   abbrev pub last-readers : List Reader
   last-readers = ls .0

@@ -1,191 +1,211 @@
--- One turn of a run that stands somewhere: it goes on, and then stands further on, or it stops, and the run is over.
-use mathlib.Core.Path.{_≡_, refl, sym, ap, _∙_, subst}
+-- One command of a run that goes on: it stands further on then, or it is stopped.
+use mathlib.Core.Path.{_≡_, refl, sym, ap, _∙_}
 use mathlib.Core.List.{List, [], _∷_, _++_, append-assoc}
 use mathlib.Core.Bool.{Bool, true, false, cond}
-use Prim.Native.Nat.{ℕ, _+_, _-_, _≤_, _<_}
+use Prim.Native.Nat.{ℕ, suc, _+_, _-_, _^_, _≤_, _<_}
 use native.Mathlib.Omega.{arith}
 use lib.Dec.{ltb}
-use lib.ListN.{length, drop, length-append, length-drop}
-use borrow.Author.Tests.{ltb-false}
+use lib.ListN.{length, drop, length-append}
+use borrow.Author.Tests.{ltb-false, ltb-true}
 use Rattle.protocol.specs.Form.{Form}
 use Rattle.protocol.specs.State.{State}
 use Rattle.protocol.specs.Outcome.{entry}
-use Rattle.protocol.specs.Command.{Decoded, over, unknown, command, decode}
 use Rattle.protocol.specs.Step.{Answer as Meant, refused, done, carry}
+use Rattle.protocol.specs.Allowed.{allowed}
+use Rattle.protocol.specs.Memory.{Memory, stored}
+use Rattle.protocol.specs.Load.{load}
 use Rattle.protocol.specs.Run.{Event, Execution, prepend, stop, answered, logged, logAfter}
 use Rattle.protocol.specs.declared.Command.{Command}
+use Rattle.protocol.specs.declared.Ending.{Ending}
 use Rattle.protocol.specs.declared.Outcome.{Outcome}
 use Rattle.protocol.specs.declared.Refusal.{Refusal}
-use Rattle.protocol.specs.declared.Refusal.the-variants.{UnknownCommand, LogFull}
-use Rattle.protocol.specs.declared.Ending.the-variants.{Refused}
-use Rattle.protocol.proofs.InRange.{in-range}
-use Rattle.protocol.proofs.Allowed.Kept.{Fine}
-use Rattle.protocol.proofs.Allowed.Carry.{kept}
-use Rattle.protocol.proofs.Runs.Decode.{Front, decode-front, decode-some}
-use Rattle.protocol.proofs.Runs.Fuel.{full, full-unknown, full-command}
-use Rattle.page.specs.declared.turn.Progress.{Progress}
-use Rattle.page.specs.Decode.{asDecoded}
-use Rattle.page.specs.Entry.{overlay}
-use Rattle.page.specs.Carry.{Here, holding, Ready, onAnswer, ranHere, wentHere}
-use Rattle.page.specs.Turn.{Turn, onAfter, onDecoded, turnOf}
-use Rattle.page.proofs.Rows.Readers.{Lists16}
-use Rattle.page.proofs.Carry.Holding.{holding-twice}
-use Rattle.page.proofs.Loop.Going.{
-  behind,
-  Going,
-  logged-snoc,
-  log-grows,
-  rest-at,
-  load-here,
-  length-log-here,
-  ends-here,
-}
+use Rattle.protocol.specs.declared.Refusal.the-variants.{LogFull}
+use Rattle.protocol.proofs.Memory.Sized.{Sized}
+use Rattle.protocol.proofs.Memory.Stored.{load-stored, stored-valid, stored-lengths, load-sized, valid-parts}
+use Rattle.protocol.proofs.Allowed.Carry.{carry-kept}
+use Rattle.protocol.proofs.Runs.Fuel.{full, full-command}
+use Rattle.codec.specs.Entry.{overlay, putAt}
+use Rattle.codec.proofs.Next.{Next}
+use Rattle.codec.proofs.Logs.{logged-snoc, log-grows}
+use Rattle.codec.proofs.Puts.{put-fits}
+use Rattle.page.specs.declared.Answer.the-variants.{Done, Refused}
+use Rattle.page.specs.declared.looping.Standing.{Standing}
+use Rattle.page.specs.declared.looping.Verdict.{Verdict}
+use Rattle.page.specs.Carry.{Ready, after, onAnswer, carryLent}
+use Rattle.page.specs.Calls.{bytesOf}
+use Rattle.page.specs.Loop.{standing, stopped, isGoing, going, enterOf}
+use Rattle.page.proofs.Loop.Taken.{taken-next}
+use Rattle.page.proofs.Loop.Going.{Round, round, behind, SoFar, Going, turnsLeft, same-log}
 
--- what is to be shown of a turn
-abbrev pub OnTurn : (F : Form) (S s log₀ : List ℕ) (h₀ : Here) (p : Progress) (h : Here) (log : List ℕ) → Turn → Type 0
-OnTurn F S s log₀ h₀ p h log (Turn.stops why h′ log′) =
-    (h′ ≡ h)
-    × (log′ ≡ log)
-    × (wentHere F S h₀ s log₀
-    ≡ ranHere (record { done = p .done; written = p .written; ending = Refused why; writer = h .writer }) h log)
-OnTurn F S s log₀ h₀ p h log (Turn.goes p′ h′ log′) =
-    Going F S s log₀ h₀ p′ h′ log′ × (p .at < p′ .at) × (p′ .done ≡ p .done + 1)
-
--- where bytes are left, the run is not over
-not-over : (l : List ℕ) → 0 < length l → decode l ≡ over → ⊥
-not-over [] h e = omega arith
-not-over (k ∷ l) h e = decode-some k l e
+-- a standing that goes on has bytes left
+pub goes-on : (v : Verdict) (at k : ℕ) → going (standing v at 0 0) k ≡ true → (isGoing v ≡ true) × (at < k)
+goes-on Verdict.Goes at k e = (refl, ltb-true at k e)
+goes-on (Verdict.Stops why) at k e = absurd (let z : _≡_ {A = ℕ} 0 1 = cc in omega arith)
 
 module _
     {F : Form}
-    {S s log₀ : List ℕ}
-    {h₀ : Here}
-    (ready : Ready F S h₀)
-    (lists : Lists16 (h₀ .store))
-    {p : Progress}
-    {h : Here}
-    {log : List ℕ}
-    (g : Going F S s log₀ h₀ p h log)
+    {S s : List ℕ}
+    {L₀ : Memory}
+    {log₀ : List ℕ}
+    {z : Round}
+    (g : Going F S s L₀ log₀ z)
+    (goes : going (z .standing) (length s) ≡ true)
   where
-    abbrev room : ℕ
-    room = length log₀ - p .written
+    abbrev y : Standing
+    y = z .standing
+
+    abbrev L : Memory
+    L = z .memory
+
+    abbrev σ : State
+    σ = load F L
 
     abbrev left : List ℕ
-    left = drop (p .at) s
+    left = drop (y .taken) s
 
-    same-room : length log - p .written ≡ room
-    same-room = ap (λ n. n - p .written) (length-log-here ready lists g)
+    abbrev room : ℕ
+    room = length log₀ - y .written
 
-    abbrev Law : Turn → Type 0
-    Law t = OnTurn F S s log₀ h₀ p h log t
+    -- WHAT A TURN MAY USE
 
-    -- the turn that ends the run
-    ended : (why : Refusal) → full F S room (g .state) left ≡ stop (g .state) (Refused why) → Law (Turn.stops why h log)
-    ended why e = (refl, refl, ends-here ready lists g (Refused why) e)
+    pub bytes-left : y .taken < length s
+    bytes-left = goes-on (y .verdict) (y .taken) (length s) goes .1
 
-    module _ (x : Command) (t : List ℕ) (d : decode left ≡ command x t) where
-      -- a command that is carried out
+    pub done-inside : y .done < length s
+    done-inside = omega (arith, g .so .each, bytes-left)
+
+    pub done-below : length s < 2 ^ 64 → y .done < 18446744073709551615
+    done-below h = omega (arith, done-inside)
+
+    pub written-inside : y .written ≤ length (z .log)
+    written-inside = omega (arith, g .so .fits, same-log g)
+
+    -- THE NEXT ROUND
+
+    here-left : turnsLeft s y ≡ suc (length s - y .taken)
+    here-left = rw (goes-on (y .verdict) (y .taken) (length s) goes .0)
+
+    -- what is to be shown of it
+    abbrev pub Law : Round → Type 0
+    Law z′ = Going F S s L₀ log₀ z′ × (turnsLeft s (z′ .standing) < turnsLeft s y)
+
+    -- a command that is refused, or none
+    pub stays : (why : Refusal) → full F S room σ left ≡ stop σ (Ending.Refused why) → Law (round (stopped y why) L (z .log))
+    stays why e = (record { so = g .so; stands = e }, omega (arith, here-left))
+
+    -- a command, and what follows it
+    module _ (x : Command) (next : ℕ) (n : Next s (y .taken) x next) where
+      abbrev t : List ℕ
+      t = drop next s
+
+      -- it is carried out
       module _
           (σ′ : State)
           (o : Outcome)
-          (e : carry F S (g .state) x ≡ done σ′ o)
+          (e : carry F S σ x ≡ done σ′ o)
           (enough : length (entry o) ≤ room)
+          (q :
+          full F S room σ left
+          ≡ prepend (record { after = σ′; outcome = o }) (full F S (room - length (entry o)) σ′ t))
         where
           abbrev event : Event
           event = record { after = σ′; outcome = o }
 
-          abbrev next : Progress
-          next = record {
-            at = length s - length t;
-            done = p .done + 1;
-            written = p .written + length (entry o);
+          abbrev es : List Event
+          es = g .so .events
+
+          abbrev written′ : ℕ
+          written′ = y .written + length (entry o)
+
+          -- what it leaves is allowed
+          kept : Sized F σ′ × (allowed F S σ′ ≡ true)
+          kept =
+              carry-kept F S σ x (g .so .ready .good) (load-sized F L (g .so .ready .lengths))
+              (valid-parts F S L (g .so .ready .valid) .0) σ′ o e
+
+          ready-next : Ready F S (stored F σ′)
+          ready-next = record {
+            good = g .so .ready .good;
+            lengths = stored-lengths F σ′ (kept .0);
+            valid = stored-valid F S σ′ (g .so .ready .good) (kept .0) (kept .1);
           }
 
+          back : load F (stored F σ′) ≡ σ′
+          back = load-stored F S σ′ (g .so .ready .good) (kept .0) (kept .1)
+
+          one : length (es ++ (event ∷ [])) ≡ suc (length es)
+          one = length-append es (event ∷ []) ∙ omega arith
+
+          less : room - length (entry o) ≡ length log₀ - written′
+          less = omega (arith, g .so .fits)
+
+          further :
+              SoFar F S s L₀ log₀ next (y .done + 1) written′ (stored F σ′) (overlay (z .log) (y .written) (entry o))
+          further =
+              let so = g .so in
+              let later = n .later in
+              let counted = so .counted in
+              let fits = so .fits in
+              let each = so .each in
+              let bytes = so .bytes in
+              record {
+                events = es ++ (event ∷ []);
+                ready = ready-next;
+                counted = omega (arith, one);
+                took = taken-next (length es) s (y .taken) (so .took) n ∙ ap (λ k. bytesOf k s) (sym one);
+                inside = n .inside;
+                each = omega arith;
+                bytes =
+                    omega (arith, ap length (logged-snoc es event), length-append (logged es) (entry o));
+                fits = omega arith;
+                wrote =
+                    ap (λ (l : List ℕ). overlay l (y .written) (entry o)) (so .wrote)
+                    ∙ ap (λ n. overlay (logAfter es log₀) n (entry o)) (so .bytes)
+                    ∙ log-grows es event log₀;
+                rest =
+                    so .rest
+                    ∙ ap (behind es) q
+                    ∙ (let x : Execution = full F S (room - length (entry o)) σ′ t in
+                    ap (λ (l : List Event). record { state = x .state; events = l; ending = x .ending })
+                    (sym (append-assoc es (event ∷ []) (x .events))))
+                    ∙ ap (λ (σ : State).
+                    behind (es ++ (event ∷ [])) (full F S (room - length (entry o)) σ t)) (sym back)
+                    ∙ ap (λ r. behind (es ++ (event ∷ [])) (full F S r (load F (stored F σ′)) t)) less;
+              }
+
           went-on :
-              full F S room (g .state) left ≡ prepend event (full F S (room - length (entry o)) σ′ t) →
-              Law (Turn.goes next (holding F σ′ h) (overlay log (p .written) (entry o)))
-          went-on q =
-              let front : Front left x t = decode-front left x t d in
-              let some = front .some in
-              let (at, rest) = rest-at s (p .at) (front .bytes) t (g .inside) (front .split) in
-              let fine′ : Fine F S σ′ = rw e at (kept F S (in-range F (ready .good)) (g .state) (g .fine) x) in
-              let fits = g .fits in
-              let less : room - length (entry o) ≡ length log₀ - next .written = omega arith in (
-                record {
-                  state = σ′;
-                  events = g .events ++ (event ∷ []);
-                  lent =
-                      ap (holding F σ′) (g .lent)
-                      ∙ holding-twice F S (ready .good) h₀ lists (g .state) σ′ (g .fine) fine′;
-                  fine = fine′;
-                  rest =
-                      g .rest
-                      ∙ ap (behind (g .events)) q
-                      ∙ (λ i.
-                      let y : Execution = full F S (less i) σ′ (sym rest i) in
-                      record { state = y .state; events = g .events ++ (event ∷ y .events); ending = y .ending })
-                      ∙ (let y : Execution = full F S (length log₀ - next .written) σ′ (drop (next .at) s) in
-                      ap (λ (l : List Event). record { state = y .state; events = l; ending = y .ending })
-                      (sym (append-assoc (g .events) (event ∷ []) (y .events))));
-                  counted = omega (arith, length-append (g .events) (event ∷ []), g .counted);
-                  bytes =
-                      omega (
-                        arith,
-                        ap length (logged-snoc (g .events) event),
-                        length-append (logged (g .events)) (entry o),
-                      );
-                  fits = omega arith;
-                  wrote =
-                      ap (λ (l : List ℕ). overlay l (p .written) (entry o)) (g .wrote)
-                      ∙ ap (λ n. overlay (logAfter (g .events) log₀) n (entry o)) (g .bytes)
-                      ∙ log-grows (g .events) event log₀;
-                  inside = omega arith;
-                  each = omega (arith, g .each);
-                },
-                omega arith,
-                refl,
-              )
+              (let u = putAt (z .log) (y .written) o in
+              Law (round (standing Verdict.Goes next (y .done + 1) (u .at)) (stored F σ′) (u .log)))
+          went-on =
+              let fits = g .so .fits in
+              let inside : written′ ≤ length (z .log) = omega (arith, same-log g) in
+              rw (put-fits (z .log) (y .written) o inside)
+              (record { so = further; stands = tt }, omega (arith, here-left, n .later, n .inside))
 
       -- by its answer
-      answers :
-          (a : Meant) → carry F S (g .state) x ≡ a →
-          full F S room (g .state) left ≡ answered (full F S) room (g .state) t a →
-          (let y = onAnswer F room h a in Law (onAfter p (length s - length t) log (y .here) (y .answer)))
-      unfolding onAnswer onAfter answered
-      answers (refused why) e q = ended why q
-      answers (done σ′ o) e q = go (ltb room (length (entry o))) refl q
+      on-answer :
+          (a : Meant) → carry F S σ x ≡ a → full F S room σ left ≡ answered (full F S) room σ t a →
+          (let c = onAnswer F room L a in
+          let u = enterOf (z .log) y next (c .answer) in
+          Law (round (u .standing) (c .memory) (u .log)))
+      unfolding onAnswer enterOf answered
+      on-answer (refused why) e q = stays why q
+      on-answer (done σ′ o) e q = go (ltb room (length (entry o))) refl q
         where
           go :
               (full? : Bool) → ltb room (length (entry o)) ≡ full? →
-              full F S room (g .state) left
-              ≡ cond full? (stop (g .state) (Refused LogFull))
+              full F S room σ left
+              ≡ cond full? (stop σ (Ending.Refused LogFull))
               (prepend (record { after = σ′; outcome = o }) (full F S (room - length (entry o)) σ′ t)) →
-              Law
-              (let y = onAnswer F room h (done σ′ o) in
-              onAfter p (length s - length t) log (y .here) (y .answer))
-          go true f q = rw f (ended LogFull q)
-          go false f q = rw f (went-on σ′ o e (ltb-false room (length (entry o)) f) q)
+              (let c = cond full? (after (Refused LogFull) L) (after (Done o) (stored F σ′)) in
+              let u = enterOf (z .log) y next (c .answer) in
+              Law (round (u .standing) (c .memory) (u .log)))
+          go true f q = stays LogFull q
+          go false f q = went-on σ′ o e (ltb-false room (length (entry o)) f) q
 
-    decodes : p .at < length s → (d : Decoded) → decode left ≡ d → Law (onDecoded F S p h log (asDecoded (length s) d))
-    unfolding onDecoded asDecoded
-    decodes more over d = absurd (not-over left (rw (length-drop (p .at) s) (omega arith)) d)
-    decodes more unknown d = ended UnknownCommand (full-unknown F S room (g .state) left d)
-    decodes more (command x t) d =
-        rw (same-room, load-here ready lists g)
-        (answers x t d (carry F S (g .state) x) refl (full-command F S room (g .state) left x t d))
-
-    on-turn : p .at < length s → OnTurn F S s log₀ h₀ p h log (turnOf F S s p h log)
-    on-turn more = decodes more (decode (drop (p .at) s)) refl
-
-    pub goes :
-        p .at < length s → {p′ : Progress} {h′ : Here} {log′ : List ℕ} → turnOf F S s p h log ≡ Turn.goes p′ h′ log′ →
-        Going F S s log₀ h₀ p′ h′ log′ × (p .at < p′ .at) × (p′ .done ≡ p .done + 1)
-    goes more e = subst (OnTurn F S s log₀ h₀ p h log) e (on-turn more)
-
-    pub stops :
-        p .at < length s → {why : Refusal} {h′ : Here} {log′ : List ℕ} → turnOf F S s p h log ≡ Turn.stops why h′ log′ →
-        (h′ ≡ h)
-        × (log′ ≡ log)
-        × (wentHere F S h₀ s log₀
-        ≡ ranHere (record { done = p .done; written = p .written; ending = Refused why; writer = h .writer }) h log)
-    stops more e = subst (OnTurn F S s log₀ h₀ p h log) e (on-turn more)
+      -- ONE TURN
+      pub going-on :
+          let c = carryLent F S room L x in
+          let u = enterOf (z .log) y next (c .answer) in
+          Law (round (u .standing) (c .memory) (u .log))
+      going-on = on-answer (carry F S σ x) refl (full-command F S room σ left x t (n .meant))

@@ -11,13 +11,11 @@ use Rattle.printing.proofs.print_lines.Statement.{statement}
 use Rattle.printing.proofs.print_lines.Tie as tie
 
 abbrev Inv-loop : tie.InvT-loop
-Inv-loop input more page₀ buffers₀ to kinds₀ allowed₀ finished₀ steps₀ digits₀ line₀ p₀ w₀ last₀
-    page buffers kinds allowed finished steps digits line p w last =
-    (length page ≡ length page₀) × (length buffers ≡ length buffers₀)
+Inv-loop input more page₀ states₀ buffers₀ to line₀ p₀ w₀ last₀ page states buffers line p w last =
+    (length page ≡ length page₀) × (length states ≡ length states₀) × (length buffers ≡ length buffers₀)
 
 abbrev μ-loop : tie.MeasureT-loop
-μ-loop input more page₀ buffers₀ to kinds₀ allowed₀ finished₀ steps₀ digits₀ line₀ p₀ w₀ last₀
-    page buffers kinds allowed finished steps digits line p w last =
+μ-loop input more page₀ states₀ buffers₀ to line₀ p₀ w₀ last₀ page states buffers line p w last =
     cond last 0 (suc (length input - p .at))
 
 resting-requires : tie.Need-resting-requires Inv-loop μ-loop
@@ -43,31 +41,37 @@ write-all-requires c κs = search needs
 
 -- the loop, from where a line is told
 abbrev in-loop : tie.After-next Inv-loop μ-loop → tie.In-loop Inv-loop μ-loop
-in-loop c = c .before .before .before .before .before .before .before .before .before
+in-loop c = c .before .before .before .before .before
 
 abbrev start-of : tie.At-loop Inv-loop μ-loop → tie.Start Inv-loop μ-loop
 start-of c =
     c .before .before .before .before .before .before .before .before .before .before .before .before .before .before
-    .before .before .before .before .before
+    .before .before .before .before
 
 same-length : tie.Need-same-length Inv-loop μ-loop
 same-length c =
-    let p = c .before .before .before .before .before .before in
+    let p = c .before .before .before .before .before .before .before .before in
     let l = in-loop (p .before) .before in
-    p .page2 .given ∙ l .loop .inv .0 ∙ l .before .before .before .before .before .before .page .given
+    p .page2 .given ∙ l .loop .inv .0 ∙ l .before .before .before .before .before .before .before .before .page .given
 
 same-length-2 : tie.Need-same-length-2 Inv-loop μ-loop
 same-length-2 c =
+    let s = c .before .before .before .before .before .before in
+    let l = in-loop (s .before .before .before) .before in
+    s .states2 .given ∙ l .loop .inv .1 ∙ l .before .before .before .before .before .before .states .given
+
+same-length-3 : tie.Need-same-length-3 Inv-loop μ-loop
+same-length-3 c =
     let b = c .before .before .before .before in
-    let l = in-loop (b .before .before .before) .before in
-    b .buffers2 .given ∙ l .loop .inv .1 ∙ l .before .before .before .before .buffers .given
+    let l = in-loop (b .before .before .before .before .before) .before in
+    b .buffers2 .given ∙ l .loop .inv .2 ∙ l .before .before .before .before .buffers .given
 
 returns : tie.Need-returns Inv-loop μ-loop
 returns c = search needs
 
 loop-less : tie.Need-loop-less Inv-loop μ-loop
 loop-less c =
-    let n = c .before .before .before .before .before .before .before .before .before in
+    let n = c .before .before .before .before .before .before .before .before .before .before .before in
     let i = in-loop n in
     let l = i .before .loop in
     falls (length (start-of (i .before) .args .input .now)) (l .p .at) (n .next .result .progress .at) (l .last)
@@ -76,11 +80,14 @@ loop-less c =
 loop-again : tie.Need-loop-again Inv-loop μ-loop
 loop-again c = search needs
 
-same-length-3 : tie.Need-same-length-3 Inv-loop μ-loop
-same-length-3 c = search needs
-
 same-length-4 : tie.Need-same-length-4 Inv-loop μ-loop
 same-length-4 c = search needs
+
+same-length-5 : tie.Need-same-length-5 Inv-loop μ-loop
+same-length-5 c = search needs
+
+same-length-6 : tie.Need-same-length-6 Inv-loop μ-loop
+same-length-6 c = search needs
 
 returns-2 : tie.Need-returns-2 Inv-loop μ-loop
 returns-2 c = search needs
@@ -100,9 +107,11 @@ print-lines-spec =
     write-all-requires
     same-length
     same-length-2
+    same-length-3
     returns
     loop-less
     loop-again
-    same-length-3
     same-length-4
+    same-length-5
+    same-length-6
     returns-2)

@@ -1,4 +1,4 @@
--- The page and the buffers are as long as `room` says, which is never more than what is there.
+-- The page, the states and the buffers are as long as `room` says, which is never more than what is there.
 use borrow.Author.Needs.{needs}
 use mathlib.Core.Path.{sym}
 use lib.Seq.{length-take-le}
@@ -14,11 +14,17 @@ array-borrow-prefix-page c = search needs
 slice-aggregate-print-lines : tie.Need-slice-aggregate-print-lines
 slice-aggregate-print-lines c = sym (length-take-le _ _ (array-borrow-prefix-page (c .before)))
 
+array-borrow-prefix-states : tie.Need-array-borrow-prefix-states
+array-borrow-prefix-states c = search needs
+
+slice-aggregate-print-lines-2 : tie.Need-slice-aggregate-print-lines-2
+slice-aggregate-print-lines-2 c = sym (length-take-le _ _ (array-borrow-prefix-states (c .before)))
+
 array-borrow-prefix-buffers : tie.Need-array-borrow-prefix-buffers
 array-borrow-prefix-buffers c = search needs
 
-slice-aggregate-print-lines-2 : tie.Need-slice-aggregate-print-lines-2
-slice-aggregate-print-lines-2 c = sym (length-take-le _ _ (array-borrow-prefix-buffers (c .before)))
+slice-aggregate-print-lines-3 : tie.Need-slice-aggregate-print-lines-3
+slice-aggregate-print-lines-3 c = sym (length-take-le _ _ (array-borrow-prefix-buffers (c .before)))
 
 print-lines-requires : tie.Need-print-lines-requires
 print-lines-requires c κs = search needs
@@ -33,7 +39,9 @@ print-run-spec =
     room-requires
     array-borrow-prefix-page
     slice-aggregate-print-lines
-    array-borrow-prefix-buffers
+    array-borrow-prefix-states
     slice-aggregate-print-lines-2
+    array-borrow-prefix-buffers
+    slice-aggregate-print-lines-3
     print-lines-requires
     returns)

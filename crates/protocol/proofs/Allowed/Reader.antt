@@ -49,7 +49,7 @@ use Rattle.protocol.proofs.Positions.Steps.{count-low, count-high, coun
 use Rattle.protocol.proofs.Allowed.Means.{GoodPage, GoodReading}
 use Rattle.protocol.proofs.Allowed.Kept.{Fine, Kept, fine-reader}
 
-abbrev GoodGathered : Form → Gathered → Type 0
+abbrev pub GoodGathered : Form → Gathered → Type 0
 GoodGathered F (Gathered.refused why) = Unit {0}
 GoodGathered F (gathered x b o) = GoodReading F x × (length b ≡ F .n)
 
@@ -58,7 +58,7 @@ abbrev pub order : Form → List ℕ
 order F = F .bases ++ reverse (F .bases)
 
 -- the digit that a reader is about to gather is below its base; a byte of the record may be anything
-abbrev Fits : Form → Reading → ℕ → Type 0
+abbrev pub Fits : Form → Reading → ℕ → Type 0
 Fits F idle d = Unit {0}
 Fits F (ofCount ds) d = d < getD (order F) (countSteps F - suc (length ds)) 0
 Fits F (ofRecord a f s ds) d = (s < F .q) ⊎ (F .q + F .n ≤ s) → d < F .base
@@ -105,7 +105,7 @@ module _ (F : Form) where
         rw (attempt-before F s j h (omega arith))
         (rw (version-below j l) at (good .before j (omega (arith, length-versionBases F))))
 
-    fits : (x : Reading) → GoodReading F x → Fits F x (getD page (nextPosition F x) 0)
+    pub fits : (x : Reading) → GoodReading F x → Fits F x (getD page (nextPosition F x) 0)
     fits idle g = tt
     fits (ofCount ds) g =
         let p : ℕ = countSteps F - suc (length ds) in
@@ -156,7 +156,7 @@ module _ (F : Form) (range : InRange F) where
     more-version s ds (inl h) e = omega arith
     more-version s ds (inr h) e = omega arith
 
-    gather-good : (x : Reading) → GoodReading F x → Fits F x d → GoodGathered F (gather F r d x buffer)
+    pub gather-good : (x : Reading) → GoodReading F x → Fits F x d → GoodGathered F (gather F r d x buffer)
     unfolding gather
     gather-good idle g l = tt
     gather-good (ofCount ds) g l =

@@ -20,7 +20,7 @@ use Rattle.protocol.specs.Outcome.{entry, isAccepted}
 use Rattle.protocol.specs.Command.{decode}
 use Rattle.protocol.specs.Step.{stepWriter, endCount, endAttempt, gather, onGathered, carry}
 use Rattle.protocol.specs.Allowed.{allowed, allowedPage, allowedWriting, allowedReading}
-use Rattle.protocol.specs.Memory.{Memory, storedWriting, storedReading, stored, goodLengths}
+use Rattle.protocol.specs.Memory.{Memory, stageAt, readerOf, storedWriting, storedReading, stored, goodLengths}
 use Rattle.protocol.specs.Load.{loadWriting, loadReading, load, validMemory}
 use Rattle.protocol.specs.Run.{
   Event,
@@ -100,8 +100,7 @@ abbrev pub lent : Form → Memory
 lent F = record {
   page = replicate (countSteps F + recordSteps F) 9;
   writer = record { kind = 9; count = count 9; version = version 9; index = 9; steps = 9 };
-  readers = replicate (F .readers)
-      (record { kind = 9; allowed = 9; finished = 9; steps = 9; digits = replicate 16 9 });
+  readers = replicate (F .readers) (readerOf (stageAt 9 9 9 9) (replicate 16 9));
   buffers = replicate (F .readers * F .n) 9;
 }
 

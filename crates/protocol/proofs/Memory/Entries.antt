@@ -50,15 +50,17 @@ sameWriter-refl x = simp eqb-refl
 pub sameReader-eq : (x y : Reader) → sameReader x y ≡ true → x ≡ y
 sameReader-eq x y h =
     let (a, digits) = both _ (same (x .digits) (y .digits)) h in
-    let (b, steps) = both _ (eqb (x .steps) (y .steps)) a in
-    let (c, finished) = both _ (eqb (x .finished) (y .finished)) b in
-    let (kind, permitted) = both (eqb (x .kind) (y .kind)) (eqb (x .allowed) (y .allowed)) c in
+    let (b, steps) = both _ (eqb (x .stage .steps) (y .stage .steps)) a in
+    let (c, finished) = both _ (eqb (x .stage .finished) (y .stage .finished)) b in
+    let (kind, permitted) = both (eqb (x .stage .kind) (y .stage .kind)) (eqb (x .stage .allowed) (y .stage .allowed)) c in
     λ i.
     record {
-      kind = eqb-true (x .kind) (y .kind) kind i;
-      allowed = eqb-true (x .allowed) (y .allowed) permitted i;
-      finished = eqb-true (x .finished) (y .finished) finished i;
-      steps = eqb-true (x .steps) (y .steps) steps i;
+      stage = record {
+        kind = eqb-true (x .stage .kind) (y .stage .kind) kind i;
+        allowed = eqb-true (x .stage .allowed) (y .stage .allowed) permitted i;
+        finished = eqb-true (x .stage .finished) (y .stage .finished) finished i;
+        steps = eqb-true (x .stage .steps) (y .stage .steps) steps i;
+      };
       digits = same-eq (x .digits) (y .digits) digits i;
     }
 

@@ -87,44 +87,50 @@ module _ (F : Form) (range : InRange F) where
     idle,
     refl,
     λ i. record {
-      kind = sym k i;
-      allowed = sym a i;
-      finished = sym f i;
-      steps = sym s i;
+      stage = record {
+        kind = sym k i;
+        allowed = sym a i;
+        finished = sym f i;
+        steps = sym s i;
+      };
       digits = sym (zeros-are (x .digits) 16 long z) i;
     },
   )
   reader-stored x long (ReaderOk.kind1 k a f s d) =
       let (ds, size, v, e) =
-      fits-stored (F .bases) (m F) (x .steps) refl (range .places .1) (omega arith) (x .digits) long d
+      fits-stored (F .bases) (m F) (x .stage .steps) refl (range .places .1) (omega arith) (x .digits) long d
       in (
         ofCount ds,
-        rw size (together (lt-ltb (x .steps) (countSteps F) s) (valid-complete v)),
+        rw size (together (lt-ltb (x .stage .steps) (countSteps F) s) (valid-complete v)),
         λ i. record {
-          kind = sym k i;
-          allowed = sym a i;
-          finished = sym f i;
-          steps = size i;
+          stage = record {
+            kind = sym k i;
+            allowed = sym a i;
+            finished = sym f i;
+            steps = size i;
+          };
           digits = (ap (λ g. storedDigits (m F) (g - m F) ds) size ∙ e) i;
         },
       )
   reader-stored x long (ReaderOk.kind2 k f s d) =
       let (ds, size, v, e) =
-      fits-stored (versionBases F) (F .q) (versionDigits F (x .steps)) (length-versionBases F)
+      fits-stored (versionBases F) (F .q) (versionDigits F (x .stage .steps)) (length-versionBases F)
       (omega (arith, range .versions)) (omega arith) (x .digits) long d
       in
-      let v = rw (one-base (F .q) (F .base) (versionDigits F (x .steps)) (omega arith)) at v in (
-        ofRecord (x .allowed) (x .finished) (x .steps) ds,
+      let v = rw (one-base (F .q) (F .base) (versionDigits F (x .stage .steps)) (omega arith)) at v in (
+        ofRecord (x .stage .allowed) (x .stage .finished) (x .stage .steps) ds,
         together
             (together
-            (together (lt-ltb (x .finished) (x .allowed) f) (lt-ltb (x .steps) (recordSteps F) s))
-            (eq-eqb (length ds) (versionDigits F (x .steps)) size))
-            (valid-every (F .base) (versionDigits F (x .steps)) ds v),
+            (together (lt-ltb (x .stage .finished) (x .stage .allowed) f) (lt-ltb (x .stage .steps) (recordSteps F) s))
+            (eq-eqb (length ds) (versionDigits F (x .stage .steps)) size))
+            (valid-every (F .base) (versionDigits F (x .stage .steps)) ds v),
         λ i. record {
-          kind = sym k i;
-          allowed = x .allowed;
-          finished = x .finished;
-          steps = x .steps;
+          stage = record {
+            kind = sym k i;
+            allowed = x .stage .allowed;
+            finished = x .stage .finished;
+            steps = x .stage .steps;
+          };
           digits = (ap (λ g. storedDigits (F .q) (g - F .q) ds) size ∙ e) i;
         },
       )

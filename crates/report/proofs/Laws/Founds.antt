@@ -15,8 +15,8 @@ use Rattle.protocol.specs.Form.{Form, formOf, goodForm}
 use Rattle.protocol.specs.declared.Format.{Format}
 use Rattle.protocol.specs.declared.Refusal.the-variants.{WrongLength, CountTooLarge}
 use Rattle.protocol.proofs.InRange.{in-range}
-use Rattle.page.proofs.Common.Forms.{good-counts}
-use Rattle.page.proofs.Common.Answers.{isDigit, digit-below}
+use Rattle.checks.proofs.Forms.{good-counts}
+use Rattle.checks.proofs.Answers.{isDigit, digit-below}
 use Rattle.report.specs.Header.{number, places, formIn, headerIn, recordAt, recordsAt, commandsAt}
 use Rattle.report.specs.Found.{foundIn, found, foundRest}
 use Rattle.report.specs.declared.header.Header.{Header}

@@ -30,7 +30,7 @@ use Rattle.report.specs.Header.{
   commandsAt,
   parse,
 }
-use Rattle.report.proofs.Laws.Numbers.{part-length}
+use Rattle.codec.proofs.Bytes.{length-part}
 
 pub record Accepted (more : Bool) (s : List ℕ) (x : Header) : Type 0 where
   pub no-more : more ≡ false
@@ -76,7 +76,7 @@ accepted more s x e =
     let l = length-bases s in
     let ends : commandsAt s ≤ length s = ltb-false (length s) (commandsAt s) f in
     let k = number 2 (recordAt s + formIn s .n) s in
-    let long = part-length s (recordsAt s) (k * formIn s .n) ends in
+    let long = length-part s (recordsAt s) (k * formIn s .n) ends in
     record {
       no-more = a;
       is-in = is-in;
@@ -90,7 +90,7 @@ accepted more s x e =
       records-begin = omega arith;
       records-end = ends;
       count-fits = leb-false (product (formIn s .bases)) (headerIn s .count .0) g;
-      first-long = part-length s (recordAt s) (formIn s .n) (omega arith);
+      first-long = length-part s (recordAt s) (formIn s .n) (omega arith);
       records-long = omega (arith, long);
       records-whole =
           eq-eqb (length (headerIn s .records) % formIn s .n) 0

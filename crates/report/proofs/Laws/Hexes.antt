@@ -6,10 +6,10 @@ use native.Mathlib.Numerals.{add-one}
 use native.Mathlib.Omega.{arith}
 use lib.ListN.{length, getD, take, set}
 use lib.Seq.{take-suc, take-all, length-take-le}
-use Rattle.page.specs.Entry.{overlay}
-use Rattle.page.proofs.Laws.Entries.Overlays.{overlay-none}
+use Rattle.codec.specs.Entry.{overlay}
+use Rattle.codec.proofs.Overlays.{overlay-none, overlay-length}
 use Rattle.report.specs.Text.{glyph, hex}
-use Rattle.report.proofs.Laws.Overlays.{overlay-length, overlay-two}
+use Rattle.report.proofs.Laws.Overlays.{overlay-two}
 
 pub length-hex : (l : List ℕ) → length (hex l) ≡ 2 * length l
 unfolding hex

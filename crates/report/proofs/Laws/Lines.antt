@@ -4,9 +4,9 @@ use mathlib.Core.List.{List, [], _∷_, _++_}
 use Prim.Native.Nat.{ℕ, _+_, _≤_}
 use native.Mathlib.Omega.{arith}
 use lib.ListN.{length, length-append}
-use Rattle.page.specs.Entry.{overlay, added}
+use Rattle.codec.specs.Entry.{overlay, added}
 use Rattle.report.specs.Text.{decimal, hex}
-use Rattle.report.proofs.Laws.Overlays.{overlay-length, overlay-on}
+use Rattle.codec.proofs.Overlays.{overlay-length, overlay-on}
 use Rattle.report.proofs.Laws.Digits.{length-decimal}
 use Rattle.report.proofs.Laws.Hexes.{length-hex}
 
@@ -34,7 +34,7 @@ module _ {l t : List ℕ} {r : ℕ} {w : List ℕ} {n : ℕ} (v : Line l t r w n
       length x ≤ k → n + k ≤ 640 → Line l t′ r′ (w ++ x) (n + k)
   line-on x k e f h =
       let z : length w ≡ 0 + length w = omega arith in
-      let g : 0 + length w ≤ length l = omega (arith, v .most, v .long) in
+      let g : 0 ≤ length l = omega arith in
       record {
         long = v .long;
         is =

@@ -4,20 +4,10 @@ use mathlib.Core.List.{List, [], _∷_, _++_, append-assoc}
 use Prim.Native.Nat.{ℕ, _+_, _≤_, _<_}
 use native.Mathlib.Omega.{arith}
 use native.Mathlib.Numerals.{add-one}
-use lib.ListN.{length, take, drop, set, length-append, length-take, length-drop}
-use lib.Seq.{
-  length-take-le,
-  take-at,
-  drop-at,
-  take-take,
-  take-append-le,
-  drop-drop,
-  drop-append-add,
-  set-split,
-  append-snoc,
-}
-use Rattle.page.specs.Entry.{overlay, added}
-use Rattle.page.proofs.Laws.Entries.Overlays.{overlay-first}
+use lib.ListN.{length, take, drop, set, length-append}
+use lib.Seq.{length-take-le, drop-at, take-take, take-append-le, set-split, append-snoc}
+use Rattle.codec.specs.Entry.{overlay, added}
+use Rattle.codec.proofs.Overlays.{overlay-first, overlay-length, overlay-on}
 
 -- one byte
 pub overlay-one : (l : List ℕ) (a v : ℕ) → a < length l → set l a v ≡ overlay l a (v ∷ [])
@@ -25,27 +15,11 @@ overlay-one l a v h =
     set-split l a v h ∙ rw (← add-one a) (sym (append-snoc (take a l) v (drop (a + 1) l)))
 
 module _ (l : List ℕ) (a : ℕ) (x : List ℕ) where
-  pub overlay-length : a + length x ≤ length l → length (overlay l a x) ≡ length l
-  overlay-length h = simp (length-append, length-take, length-drop) (omega arith)
-
   module _ (h : a + length x ≤ length l) (y : List ℕ) where
-    front : length (take a l ++ x) ≡ a + length x
-    front = length-append (take a l) x ∙ ap (λ k. k + length x) (length-take-le a l (omega arith))
-
-    beyond : drop (a + length x + length y) (overlay l a x) ≡ drop (a + length x + length y) l
-    beyond =
-        ap (λ k. drop (k + length y) (overlay l a x)) (sym front)
-        ∙ drop-append-add (take a l ++ x) (drop (a + length x) l) (length y)
-        ∙ drop-drop (length y) (a + length x) l
-
     both : take a l ++ x ++ y ++ drop (a + length x + length y) l ≡ overlay l a (x ++ y)
     both =
         let e : a + length x + length y ≡ a + length (x ++ y) = simp length-append (omega arith) in
         rw (e, append-assoc (take a l) x y)
-
-    -- y after x
-    pub overlay-on : overlay (overlay l a x) (a + length x) y ≡ overlay l a (x ++ y)
-    overlay-on = rw (take-at (take a l ++ x) (drop (a + length x) l) (a + length x) front, beyond) both
 
     -- x before y
     pub overlay-under : overlay (overlay l (a + length x) y) a x ≡ overlay l a (x ++ y)
@@ -65,8 +39,8 @@ module _ (l : List ℕ) (a : ℕ) (x : List ℕ) where
   module _ (h : a + length x < length l) (v : ℕ) where
     pub overlay-next : set (overlay l a x) (a + length x) v ≡ overlay l a (x ++ (v ∷ []))
     overlay-next =
-        overlay-one (overlay l a x) (a + length x) v (omega (arith, overlay-length (omega arith)))
-        ∙ overlay-on (omega arith) (v ∷ [])
+        overlay-one (overlay l a x) (a + length x) v (omega (arith, overlay-length l a x (omega arith)))
+        ∙ overlay-on l a x (omega arith) (v ∷ [])
 
     pub overlay-last : overlay (set l (a + length x) v) a x ≡ overlay l a (x ++ (v ∷ []))
     overlay-last =

@@ -4,8 +4,8 @@ use mathlib.Core.List.{List, [], _∷_}
 use Prim.Native.Nat.{ℕ, zero, suc, _+_, _-_, _/_, _%_, _≤_, _<_}
 use native.Mathlib.Omega.{arith}
 use lib.ListN.{length, set, length-append}
-use Rattle.page.specs.Entry.{overlay}
-use Rattle.page.proofs.Laws.Entries.Overlays.{overlay-none}
+use Rattle.codec.specs.Entry.{overlay}
+use Rattle.codec.proofs.Overlays.{overlay-none}
 use Rattle.report.specs.Text.{glyph, decimalIn, decimal}
 use Rattle.report.proofs.Laws.Digits.{last-digit}
 use Rattle.report.proofs.Laws.Overlays.{overlay-last}

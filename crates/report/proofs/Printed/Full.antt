@@ -1,47 +1,56 @@
 -- A log with ten bytes for each byte of the commands never fills.
-use mathlib.Core.Path.{_≡_, ap}
-use mathlib.Core.List.{List, [], _∷_}
+use mathlib.Core.Path.{_≡_, refl, ap, _∙_}
+use mathlib.Core.List.{List}
+use mathlib.Core.Bool.{Bool, true, false}
 use Prim.Native.Nat.{ℕ, zero, suc, _*_, _-_, _≤_, _<_}
 use native.Mathlib.Omega.{arith}
-use lib.ListN.{length, drop, length-drop}
+use lib.Dec.{eqb}
+use lib.ListN.{length, drop}
+use lib.Seq.{drop-length}
+use borrow.Author.Tests.{eqb-true, eqb-false}
 use Rattle.protocol.specs.Form.{Form}
 use Rattle.protocol.specs.State.{State}
 use Rattle.protocol.specs.Outcome.{endingNumber, entry}
-use Rattle.protocol.specs.Run.{Execution}
+use Rattle.protocol.specs.Run.{Execution, stop}
+use Rattle.protocol.specs.declared.Ending.the-variants.{Finished}
 use Rattle.protocol.proofs.Runs.Fuel.{full, full-over}
-use Rattle.report.specs.Turn.{nextWidth}
-use Rattle.report.proofs.Turns.One.{One, stops, goes, one, entry-short}
+use Rattle.page.proofs.Calls.Steps.{entry-most}
+use Rattle.report.proofs.Turns.One.{One, nothing, stops, goes, one}
 
-module _ (F : Form) (S : List ℕ) where
-  abbrev Says : ℕ → Type 0
-  Says k =
-      (room : ℕ) (σ : State) (s : List ℕ) → length s ≤ k → 10 * length s ≤ room
-      → endingNumber (full F S room σ s .ending) < 12
+-- nothing is left
+pub none-left : (F : Form) (S : List ℕ) (room : ℕ) (σ : State) (s : List ℕ) (at : ℕ) → at ≡ length s
+    → full F S room σ (drop at s) ≡ stop σ Finished
+none-left F S room σ s at e =
+    ap (full F S room σ) (ap (λ n. drop n s) e ∙ drop-length s) ∙ full-over F S room σ
 
+module _ (F : Form) (S : List ℕ) (s : List ℕ) where
   abbrev number : Execution → ℕ
   number w = endingNumber (w .ending)
 
-  by-one : (k : ℕ) → Says k → (room : ℕ) (σ : State) (s : List ℕ) → 0 < length s → length s ≤ suc k
-      → 10 * length s ≤ room → One F S σ s → endingNumber (full F S room σ s .ending) < 12
-  by-one k again room σ s some a b (stops why small e all) = omega (arith, ap number (all room))
-  by-one k again room σ s some a b (goes x σ′ o c e all fits) =
-      let l : length (drop (nextWidth s) s) ≡ length s - nextWidth s = length-drop (nextWidth s) s in
-      omega (
-        arith,
-        ap number (all room (omega arith)),
-        again (room - length (entry o)) σ′ (drop (nextWidth s) s) (omega (arith, l, fits))
-            (omega (arith, l, fits, entry-short o)),
-      )
+  abbrev Says : ℕ → Type 0
+  Says k =
+      (at room : ℕ) (σ : State) → at ≤ length s → length s - at ≤ k → 10 * (length s - at) ≤ room
+      → number (full F S room σ (drop at s)) < 12
 
-  by-bytes : (k : ℕ) → Says k → Says (suc k)
-  by-bytes k again room σ [] a b = omega (arith, ap number (full-over F S room σ))
-  by-bytes k again room σ (c ∷ s) a b =
-      by-one k again room σ (c ∷ s) (omega arith) a b (one F S σ (c ∷ s) (omega arith))
-
-  none : Says 0
-  none room σ [] a b = omega (arith, ap number (full-over F S room σ))
-  none room σ (c ∷ s) a b = absurd (omega arith)
+  module _ (k at room : ℕ) (σ : State) (low : at < length s) (few : length s - at ≤ suc k)
+      (roomy : 10 * (length s - at) ≤ room) (again : Says k) where
+    by-one : One F S σ s at → number (full F S room σ (drop at s)) < 12
+    by-one (nothing e u all) = omega (arith, ap number (all room))
+    by-one (stops x next why e c small all) = omega (arith, ap number (all room))
+    by-one (goes x next τ o e c all fits) =
+        omega (
+          arith,
+          ap number (all room (omega arith)),
+          again next (room - length (entry o)) τ (fits .1) (omega (arith, fits))
+              (omega (arith, fits, entry-most o)),
+        )
 
   pub never-full : (k : ℕ) → Says k
-  never-full zero = none
-  never-full (suc k) = by-bytes k (never-full k)
+  never-full zero at room σ a b c = omega (arith, ap number (none-left F S room σ s at (omega arith)))
+  never-full (suc k) at room σ a b c = go (never-full k) (eqb at (length s)) refl
+    where
+      go : Says k → (t : Bool) → eqb at (length s) ≡ t → number (full F S room σ (drop at s)) < 12
+      go again true q = omega (arith, ap number (none-left F S room σ s at (eqb-true at (length s) q)))
+      go again false q =
+          let low : at < length s = omega (arith, eqb-false at (length s) q) in
+          by-one k at room σ low b c again (one F S σ s at low)

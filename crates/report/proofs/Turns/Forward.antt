@@ -1,76 +1,71 @@
 -- A turn that is not the last goes forward in the input, and its text is in the line.
 use mathlib.Core.Path.{_≡_, refl, sym, ap, _∙_}
-use mathlib.Core.List.{List, _++_}
+use mathlib.Core.List.{List, [], _∷_, _++_}
 use mathlib.Core.Bool.{false, _||_}
 use Prim.Native.Nat.{ℕ, _+_, _≤_, _<_}
 use native.Mathlib.Omega.{arith}
 use lib.Dec.{eqb, ltb}
-use lib.ListN.{length, drop, length-drop, length-append}
-use borrow.Author.Tests.{ltb-false, eqb-false}
+use lib.ListN.{length, drop, length-append}
 use Rattle.protocol.specs.declared.Refusal.the-variants.{InvalidState}
 use Rattle.protocol.specs.declared.Ending.{Ending}
-use Rattle.protocol.specs.declared.Ending.the-variants.{Finished, Refused}
-use Rattle.protocol.proofs.Lists.Cases.{by-cond, neither}
-use Rattle.page.specs.Carry.{Here}
+use Rattle.protocol.proofs.Lists.Cases.{by-cond}
+use Rattle.codec.specs.Decode.{decodeAt}
+use Rattle.codec.specs.declared.Decoded.{Decoded}
+use Rattle.codec.proofs.Next.{Says, decoded}
+use Rattle.page.specs.declared.Answer.{Answer}
+use Rattle.page.specs.Kept.{Kept, runKept, stepKept}
 use Rattle.report.specs.declared.Progress.{Progress}
-use Rattle.report.specs.declared.Told.{Told as Answer}
+use Rattle.report.specs.declared.Told.{Told}
 use Rattle.report.specs.Header.{Parsed, refused, header, Header}
-use Rattle.report.specs.Turn.{Turn, ends, nextWidth, runOne, told, carryOut, turnOf}
-use Rattle.report.specs.Calls.{ToldHere, toldAll, toldFrom}
-use Rattle.report.proofs.Laws.Widths.{width-fits}
+use Rattle.report.specs.Turn.{Turn, ends, told, noCommand, carried, turnOf}
+use Rattle.report.specs.Calls.{ToldKept, toldAll, toldFrom}
 
 abbrev Forward : List ℕ → Progress → Turn → Type 0
 Forward s p t = t .last ≡ false → (p .at < t .progress .at) × (t .progress .at ≤ length s)
 
-module _ (s : List ℕ) (p : Progress) (h : Here) where
-  last-turn : (z : Here) (e : Ending) → Forward s p (ends p z e)
+module _ (s : List ℕ) (p : Progress) (K : Kept) where
+  last-turn : (z : Kept) (e : Ending) → Forward s p (ends p z e)
   last-turn z e q = absurd (let n : _≡_ {A = ℕ} 0 1 = cc in omega arith)
 
-  module _ (x : Header) (low : p .at < length s) where
-    abbrev rest : List ℕ
-    rest = drop (p .at) s
+  by-answer :
+      (n next : ℕ) (z : Kept) → (p .at < next) × (next ≤ length s) → (a : Answer) → Forward s p (told n next p z a)
+  unfolding told
+  by-answer n next z h (Answer.Refused why) = last-turn z (Ending.Refused why)
+  by-answer n next z h (Answer.Done o) = λ e. h
 
-    some : 0 < length rest
-    some = omega (arith, length-drop (p .at) s)
+  no-turn : (x : Header) → Forward s p (noCommand s x p K)
+  no-turn x =
+      let y = runKept (x .form) (x .records) K (drop (p .at) s) (0 ∷ []) in last-turn (y .kept) (y .ran .ending)
 
-    by-ending : (e : Ending) → runOne x h rest .ran .ending ≡ e
-        → Forward s p (told (x .form .n) (nextWidth rest) p (runOne x h rest) e)
-    unfolding told
-    by-ending (Refused why) q = last-turn (runOne x h rest .here) (Refused why)
-    by-ending Finished q = λ e.
-        (omega (arith, width-fits rest some), omega (arith, width-fits rest some, length-drop (p .at) s))
+  by-decoded : (x : Header) (d : Decoded) → Says s (p .at) d → Forward s p (carried s x p K d)
+  unfolding carried
+  by-decoded x Decoded.Over n = no-turn x
+  by-decoded x Decoded.Unknown n = no-turn x
+  by-decoded x (Decoded.Is c next) n =
+      let y = stepKept (x .form) (x .records) K c in
+      by-answer (x .form .n) next (y .kept) (n .later, n .inside) (y .answer)
 
-    carry-forward : Forward s p (carryOut s x p h)
-    unfolding carryOut
-    carry-forward = by-ending (runOne x h rest .ran .ending) refl
-
-  pub turn-forward : (x : Parsed) → Forward s p (turnOf s p h x)
+  pub turn-forward : (x : Parsed) → Forward s p (turnOf s p K x)
   unfolding turnOf
-  turn-forward (refused why) = last-turn h (Refused why)
+  turn-forward (refused why) = last-turn K (Ending.Refused why)
   turn-forward (header x) =
-      by-cond (Forward s p) (ltb (length s) (p .at) || ltb (p .at) (p .done)) (λ q. last-turn h (Refused InvalidState))
-      (λ q.
-      by-cond (Forward s p) (eqb (p .at) (length s)) (λ r. last-turn h Finished)
-      (λ r.
-      carry-forward x
-      (omega (
-        arith,
-        ltb-false (length s) (p .at) (neither (ltb (length s) (p .at)) (ltb (p .at) (p .done)) q .0),
-        eqb-false (p .at) (length s) r,
-      ))))
+      by-cond (Forward s p) (ltb (length s) (p .at) || ltb (p .at) (p .done))
+      (λ q. last-turn K (Ending.Refused InvalidState))
+      (λ q. by-cond (Forward s p) (eqb (p .at) (length s)) (λ r. last-turn K Ending.Finished)
+      (λ r. by-decoded x (decodeAt s (p .at)) (decoded s (p .at) refl)))
 
   -- the same of the call's answer
   pub told-bounds :
-      (line : List ℕ) (x : Parsed) {r : Answer} {z : Here} {l : List ℕ} →
-      toldAll r z l ≡ toldFrom line (turnOf s p h x) →
+      (line : List ℕ) (x : Parsed) {r : Told} {z : Kept} {l : List ℕ} →
+      toldAll r z l ≡ toldFrom line (turnOf s p K x) →
       (r .last ≡ false → (p .at < r .progress .at) × (r .progress .at ≤ length s)) × (r .written ≤ length l)
   told-bounds line x {r} {z} {l} e =
-      let t = turnOf s p h x in
-      let last = ap (λ (y : ToldHere). y .told .last) e in
-      let at : r .progress .at ≡ t .progress .at = ap (λ (y : ToldHere). y .told .progress .at) e in
-      let wide : r .written ≡ length (t .text) = ap (λ (y : ToldHere). y .told .written) e in
+      let t = turnOf s p K x in
+      let last = ap (λ (y : ToldKept). y .told .last) e in
+      let at : r .progress .at ≡ t .progress .at = ap (λ (y : ToldKept). y .told .progress .at) e in
+      let wide : r .written ≡ length (t .text) = ap (λ (y : ToldKept). y .told .written) e in
       let long : length l ≡ length (t .text ++ drop (0 + length (t .text)) line) =
-      ap (λ (y : ToldHere). length (y .line)) e
+      ap (λ (y : ToldKept). length (y .line)) e
       in (
         (λ q.
             let (low, high) = turn-forward x (sym last ∙ q) in

@@ -1,5 +1,5 @@
 -- The tests of a turn: a strange place, the end of the input, or a command.
-use mathlib.Core.Path.{_≡_, refl, sym, ap, _∙_}
+use mathlib.Core.Path.{_≡_, refl}
 use mathlib.Core.List.{List}
 use mathlib.Core.Bool.{true}
 use Prim.Native.Nat.{ℕ, _≤_, _<_}
@@ -10,35 +10,44 @@ use Rattle.protocol.specs.declared.Refusal.{Refusal}
 use Rattle.protocol.specs.declared.Refusal.the-variants.{InvalidState}
 use Rattle.protocol.specs.declared.Ending.{Ending}
 use Rattle.protocol.specs.declared.Ending.the-variants.{Finished, Refused}
-use Rattle.page.specs.Entry.{overlay}
-use Rattle.page.specs.Carry.{Here, here}
+use Rattle.codec.specs.Entry.{overlay}
+use Rattle.page.specs.Kept.{Kept, kept}
 use Rattle.report.specs.declared.Progress.{Progress}
 use Rattle.report.specs.declared.Told.{Told}
-use Rattle.report.specs.Header.{Parsed, refused, header, Header}
+use Rattle.report.specs.Header.{refused, header, Header}
 use Rattle.report.specs.Text.{endLine}
 use Rattle.report.specs.Turn.{ends, carryOut, turnOf}
 use Rattle.report.specs.Calls.{toldAll, toldFrom}
 
-module _ (s : List ℕ) (p : Progress) (h : Here) where
-  pub header-refused : (why : Refusal) → turnOf s p h (refused why) ≡ ends p h (Refused why)
+-- the call's answer at the last turn
+pub tells-last :
+    (line : List ℕ) (p : Progress) (K : Kept) (e : Ending) {r : Told} {l : List ℕ} →
+    (r ≡ record { written = length (endLine (p .done) e); last = true; progress = p; writer = K .writer })
+    × (l ≡ overlay line 0 (endLine (p .done) e)) →
+    toldAll r (kept (K .page) (r .writer) (K .states) (K .buffers)) l ≡ toldFrom line (ends p K e)
+tells-last line p K e d =
+    λ i. toldAll (d .0 i) (kept (K .page) (d .0 i .writer) (K .states) (K .buffers)) (d .1 i)
+
+module _ (s : List ℕ) (p : Progress) (K : Kept) where
+  pub header-refused : (why : Refusal) → turnOf s p K (refused why) ≡ ends p K (Refused why)
   unfolding turnOf
   header-refused why = refl
 
   module _ (x : Header) where
-    pub beyond : length s < p .at → turnOf s p h (header x) ≡ ends p h (Refused InvalidState)
+    pub beyond : length s < p .at → turnOf s p K (header x) ≡ ends p K (Refused InvalidState)
     unfolding turnOf
     beyond a = rw (lt-ltb (length s) (p .at) a)
 
-    pub too-many : p .at ≤ length s → p .at < p .done → turnOf s p h (header x) ≡ ends p h (Refused InvalidState)
+    pub too-many : p .at ≤ length s → p .at < p .done → turnOf s p K (header x) ≡ ends p K (Refused InvalidState)
     unfolding turnOf
     too-many a d = rw (le-ltb (length s) (p .at) a, lt-ltb (p .at) (p .done) d)
 
-    pub at-end : p .at ≡ length s → p .done ≤ p .at → turnOf s p h (header x) ≡ ends p h Finished
+    pub at-end : p .at ≡ length s → p .done ≤ p .at → turnOf s p K (header x) ≡ ends p K Finished
     unfolding turnOf
     at-end a d =
         rw (le-ltb (length s) (p .at) (omega arith), le-ltb (p .at) (p .done) d, eq-eqb (p .at) (length s) a)
 
-    pub inside : p .at < length s → p .done ≤ p .at → turnOf s p h (header x) ≡ carryOut s x p h
+    pub inside : p .at < length s → p .done ≤ p .at → turnOf s p K (header x) ≡ carryOut s x p K
     unfolding turnOf
     inside a d =
         rw (
@@ -46,13 +55,3 @@ module _ (s : List ℕ) (p : Progress) (h : Here) where
           le-ltb (p .at) (p .done) d,
           ne-eqb (p .at) (length s) (λ e. omega arith),
         )
-
-  -- the call's answer at the last turn
-  pub tells-end :
-      (line : List ℕ) (e : Ending) (x : Parsed) {r : Told} {l : List ℕ} → turnOf s p h x ≡ ends p h e →
-      (r ≡ record { written = length (endLine (p .done) e); last = true; progress = p; writer = h .writer })
-      × (l ≡ overlay line 0 (endLine (p .done) e)) →
-      toldAll r (here (h .page) (r .writer) (h .store) (h .buffers)) l ≡ toldFrom line (turnOf s p h x)
-  tells-end line e x q d =
-      (λ i. toldAll (d .0 i) (here (h .page) (d .0 i .writer) (h .store) (h .buffers)) (d .1 i))
-      ∙ ap (toldFrom line) (sym q)

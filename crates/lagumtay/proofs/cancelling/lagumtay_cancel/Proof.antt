@@ -1,6 +1,6 @@
 -- `lagumtay::cancelling::lagumtay_cancel` meets its contract: a walk of its MIR, by hand.
--- The format and the writer are loaded through `&`. `lent::cancel` gets all else that is lent at its own lifetimes,
--- shares and names (`gave-slice`), in its own order.
+-- The format and the writer are loaded through `&`. `page::cancel` gets all else that is lent at its own lifetimes,
+-- shares and names, in its own order. Of it only the readers are lent as `&mut` (`gave-slice`).
 use mathlib.Core.Path.{_≡_, refl}
 use Prim.Native.Nat.{ℕ}
 use mathlib.Core.List.{List, [], _∷_}
@@ -43,23 +43,22 @@ use Rattle.protocol.proofs.Format as TF
 use Rattle.protocol.proofs.Format.Laws as TF′
 use Rattle.protocol.proofs.Writer as TW
 use Rattle.protocol.proofs.Writer.Laws as TW′
-use Rattle.lent.specs.Calls.{endedLent, cancelLent}
-use Rattle.lent.proofs.Walks.Rules.Flat.{_&_}
-use Rattle.lent.proofs.Walks.Rules.Locals.{Slot, has, spread, wide, enters, leaves, arg}
-use Rattle.lent.proofs.Walks.Rules.Again.{lends-on}
-use Rattle.lent.proofs.Walks.Calls.Ended.{typed-ending}
+use Rattle.page.specs.Carry.{lent}
+use Rattle.page.specs.Calls.{endedLent, cancelLent}
+use Rattle.page.proofs.Walks.Rules.Flat.{_&_}
+use Rattle.page.proofs.Walks.Rules.Locals.{Slot, has, spread, wide, enters, leaves, arg}
+use Rattle.page.proofs.Walks.Rules.Again.{lends-on}
 use Rattle.lagumtay.proofs.Laws.Cancels.{cancelled}
-use Rattle.lagumtay.proofs.Walks.Lent.{the, in-order, format, writer, form, memory, vals, params, held, loaded}
-use Rattle.lagumtay.proofs.Walks.Lent.{lent-on, handed, handed-vals, last-readers, last-page, last-buffers}
-use Rattle.lagumtay.proofs.Walks.Lent.{memory-after}
+use Rattle.lagumtay.proofs.Walks.Lent.{the, lent-on, in-order, format, page, writer, readers, buffers, form}
+use Rattle.lagumtay.proofs.Walks.Lent.{memory, vals, params, held, loaded, handed, handed-vals}
 use Rattle.lagumtay.proofs.Walks.Loads.{loads-shr}
 use Rattle.lagumtay.proofs.Walks.Apart.{tokens, apart, together, as-long}
 use Rattle.lagumtay.proofs.Walks.Facts.{calls-plain}
-use Rattle.lagumtay.proofs.Walks.Ending.{Numbers, numbers, typed-number}
-use Rattle.lent.proofs.cancel as g
-use Rattle.lent.proofs.cancel.Symbol as cancel-def
-use Rattle.lent.proofs.cancel.Symbol.{name as #lent·cancel}
-use Rattle.lent.proofs.cancel.Met as cancel-thm
+use Rattle.lagumtay.proofs.Walks.Ending.{Numbers, numbers, typed-ending, typed-number}
+use Rattle.page.proofs.cancel as g
+use Rattle.page.proofs.cancel.Symbol as cancel-def
+use Rattle.page.proofs.cancel.Symbol.{name as #page·cancel}
+use Rattle.page.proofs.cancel.Met as cancel-thm
 use Rattle.protocol.proofs.ending_number.Symbol as number-def
 use Rattle.protocol.proofs.ending_number.Symbol.{name as #protocol·ending-number}
 use Rattle.protocol.proofs.ending_number.Met as number-thm
@@ -73,15 +72,14 @@ R = TR.the-row
 
 abbrev stayed : Stays (f.ended .signature .params) (f.ended .kept)
 stayed =
-    stay-dropped _ yes & stay-dropped _ yes & gave-slice (2 ∷ []) tt (plain (λ _. u8)) & stay-dropped _ yes &
-    gave-slice (4 ∷ []) tt (plain (λ _. R)) & gave-slice (5 ∷ []) tt (plain (λ _. u8)) & stay-dropped _ yes &
-    stay-dropped _ yes & tt
+    stay-dropped _ yes & stay-dropped _ yes & stay-dropped _ yes & stay-dropped _ yes &
+    gave-slice (4 ∷ []) tt (plain (λ _. R)) & stay-dropped _ yes & stay-dropped _ yes & stay-dropped _ yes & tt
 
 -- what is known of the functions that are called
 abbrev Known : {M : Type 1} (𝓤 : URA M) (H : Heap 𝓤) (A : Atoms 𝓤) (mem : Memory → SProp 𝓤) (run : Routine → Fun 𝓤)
     → Calls 𝓤 H → Type 1
 Known 𝓤 H A mem run C =
-    Triple 𝓤 (C #lent·cancel) (tripleOf 𝓤 H A g.signature (g.spec 𝓤 H A mem run))
+    Triple 𝓤 (C #page·cancel) (tripleOf 𝓤 H A g.signature (g.spec 𝓤 H A mem run))
     × Triple 𝓤 (C #protocol·ending-number) (Numbers 𝓤 H A mem run)
 
 module _ {M : Type 1} (𝓤 : URA M) (H : Heap 𝓤) (A : Atoms 𝓤) (W : Given 𝓤 H A) (mem : Memory → SProp 𝓤)
@@ -98,7 +96,7 @@ module _ {M : Type 1} (𝓤 : URA M) (H : Heap 𝓤) (A : Atoms 𝓤) (W : Given
   abbrev Post : Val → SProp 𝓤
   Post = walkOf 𝓤 H A f.ended stayed (f.clauses 𝓤 H A mem run) .post ((κs, qs, tt, a, vs), tt)
 
-  -- what `lent::cancel` is handed, at these lifetimes and shares
+  -- what `page::cancel` is handed, at these lifetimes and shares
   abbrev λs : Lfts 5
   λs = in-order κs (κs .1 .1 .1 .1 .1 .1)
 
@@ -116,7 +114,9 @@ module _ {M : Type 1} (𝓤 : URA M) (H : Heap 𝓤) (A : Atoms 𝓤) (W : Given
   Lasting = Lasts g.ended λs b
 
   abbrev Says : Ending → Lasting → Type 0
-  Says e ls = endedLent e (memory-after ls (writer a .now)) ≡ cancelLent (form a) (records .now) (memory a) who
+  Says e ls =
+      endedLent e (lent (page a .now) (writer a .now) (ls .0) (buffers a .now))
+      ≡ cancelLent (form a) (records .now) (memory a) who
 
   -- what stands after the call
   abbrev Ended : Lasting → List (Item 𝓤)
@@ -128,21 +128,20 @@ module _ {M : Type 1} (𝓤 : URA M) (H : Heap 𝓤) (A : Atoms 𝓤) (W : Given
       ent 𝓤 (⋆ 𝓤 H A (Ended ls)) (Post w)
   exits e ls w said is =
       qed W (Ended ls) ∵ move ! (1 ∷ []) $ apart ! 8 _ $
-      as-long ! 0 refl (λ lr. as-long ! 3 refl (λ lp. as-long ! 5 refl (λ lb.
+      as-long ! 0 refl (λ lr.
       suffices ! _ (ends-at 𝓤 H A f.ended stayed (f.clauses 𝓤 H A mem run) W ((κs, qs, tt, a, vs), tt) w
       (endingNumber e)
-      (tt & tt & last-page ls & tt & last-readers ls & last-buffers ls & tt & tt & tt)
-      (tt & tt & lp & tt & lr & lb & tt & tt & tt)) $ says ! (cancelled _ _ _ _ e _ said) $
-      -- [the last readers; none; none; the last page; none; the last buffers; none; none; the tokens; 3; 0]
+      (tt & tt & tt & tt & ls .0 & tt & tt & tt & tt) (tt & tt & tt & tt & lr & tt & tt & tt & tt)) $ says ! (cancelled _ _ _ _ e _ said) $
+      -- [the last readers; none, seven times; the tokens; token 3; token 0]
       move ! (8 ∷ []) $ apart ! 5 _ $ move ! (14 ∷ 1 ∷ 2 ∷ 13 ∷ 0 ∷ 3 ∷ 4 ∷ []) $
       together ! 7 _ $ frame ! $ move ! (1 ∷ 2 ∷ 3 ∷ 4 ∷ 0 ∷ []) $ together ! 8 _ $
-      owned ! u8 (Is u8) (uint-makes 𝓤 H A W w8) (endingNumber e) _ is $ move ! (1 ∷ 0 ∷ []) $ done !)))
+      owned ! u8 (Is u8) (uint-makes 𝓤 H A W w8) (endingNumber e) _ is $ move ! (1 ∷ 0 ∷ []) $ done !)
 
   module _ (are : Are (typesAt (f.signature .params) κs) (Ises (typesAt (f.signature .params) κs)) a vs) (C : Calls 𝓤 H)
       (Λ : Loops 𝓤 H) (fm : FmC 𝓤 H (W .laws) C) (known : Known 𝓤 H A mem run C) where
     -- what the locals hold at the end
     abbrev Held : Val → Val → List Slot
-    Held v w = has w ∷ held a (has (the records) ∷ has (vint w8 who) ∷ loaded a (has v ∷ lent-on a []))
+    Held v w = has w ∷ held a (has (the records) ∷ has (vint w8 who) ∷ loaded a (has v ∷ lent-on (readers a) []))
 
     walk :
         ent 𝓤 (onEntry 𝓤 H A f.signature κs qs a vs)
@@ -162,15 +161,13 @@ module _ {M : Type 1} (𝓤 : URA M) (H : Heap 𝓤) (A : Atoms 𝓤) (W : Given
         loads-shr ! TW.the-type TW′.the-laws TW′.the-copy (writer a) 16 22 refl refl refl (λ writer-is.
         -- [token 3; token 0; the other tokens; readers; bases; page; buffers; records; who; _0; …]
         lends-on ! 18 25 26 (are .1 .1 .1 .1 .0 .0 .1 .0) refl refl refl refl refl refl $
-        lends-on ! 16 27 28 (are .1 .1 .0 .0 .1 .0) refl refl refl refl refl refl $
-        lends-on ! 19 29 30 (are .1 .1 .1 .1 .1 .0 .0 .1 .0) refl refl refl refl refl refl $
         owned ! TF.the-row (Is TF.the-row) (LL.makes TF.the-type TF′.the-plain 𝓤 H A) (format a .now) _ format-is $
         owned ! TW.the-row (Is TW.the-row) (LL.makes TW.the-type TW′.the-plain 𝓤 H A) (writer a .now) _ writer-is $
         move ! (9 ∷ 1 ∷ 10 ∷ 11 ∷ 0 ∷ 12 ∷ 13 ∷ 14 ∷ []) $ together ! 8 _ $
         move ! (3 ∷ 4 ∷ 5 ∷ 6 ∷ 7 ∷ []) $ together ! 5 _ $ join ! $
         -- [what is handed; token 3; token 0; _0; …]
         calls-plain ! fm g.ended (g.clauses 𝓤 H A mem run) (known .0) (λs, ps, tt, b, us) tt (id⊢ 𝓤 _) (id⊢ 𝓤 _)
-        (arg ! 16 refl (arg ! 12 refl (arg ! 5 refl (arg ! 18 refl (arg ! 13 refl (arg ! 20 refl (arg ! 10 refl
+        (arg ! 16 refl (arg ! 12 refl (arg ! 5 refl (arg ! 6 refl (arg ! 13 refl (arg ! 9 refl (arg ! 10 refl
         (arg ! 11 refl (no-more !))))))))) Says (λ e ls. id⊢ 𝓤 _) (λ v e ls e-is said.
         land ! (from ! (stop !)) (init ! 15 refl (typed-ending 𝓤 H A W e v e-is)) $
         numbers ! mem run fm (known .1) e v e-is (λ _. arg ! 16 refl (no-more !)) (λ w is.
@@ -186,8 +183,8 @@ module _ {M : Type 1} (𝓤 : URA M) (H : Heap 𝓤) (A : Atoms 𝓤) (W : Given
       walked 𝓤 H A f.ended stayed (f.clauses 𝓤 H A mem run) (WpFn 𝓤 H C Λ code.function)
       (λ κs. ptr-vals & slice-vals & slice-vals & ptr-vals & slice-vals & slice-vals & slice-vals & uint-vals w8 & tt)
       (λ κs. shr-tells (named 0) (κs .0) TF.the-row & shr-slice-tells (named 1) (κs .1 .0) u16 &
-      mut-slice-tells (named 2) (κs .1 .1 .0) u8 & shr-tells (named 3) (κs .1 .1 .1 .0) TW.the-row &
-      mut-slice-tells (named 4) (κs .1 .1 .1 .1 .0) R & mut-slice-tells (named 5) (κs .1 .1 .1 .1 .1 .0) u8 &
+      shr-slice-tells (named 2) (κs .1 .1 .0) u8 & shr-tells (named 3) (κs .1 .1 .1 .0) TW.the-row &
+      mut-slice-tells (named 4) (κs .1 .1 .1 .1 .0) R & shr-slice-tells (named 5) (κs .1 .1 .1 .1 .1 .0) u8 &
       shr-slice-tells (named 6) (κs .1 .1 .1 .1 .1 .1 .0) u8 & uint-tells w8 & tt)
       (λ κs qs bounds a _ are. via 𝓤 _ (fst∗ 𝓤 _ (emp 𝓤))
       (walk 𝓤 H A W mem run κs qs a are C Λ fm known))
@@ -196,9 +193,10 @@ module _ {M : Type 1} (𝓤 : URA M) (H : Heap 𝓤) (A : Atoms 𝓤) (W : Given
   goes =
       goes-dropped 𝓤 H A W 7 (shrRefTo (0 ∷ []) tt (plain (λ _. TF.the-row))) yes (λ κs x f. refl) &
       goes-dropped 𝓤 H A W 7 (shrSliceOf (1 ∷ []) tt (plain (λ _. u16))) yes (λ κs x f. refl) &
-      goes-gave-slice 𝓤 H A W 7 2 tt (plain (λ _. u8)) &
+      goes-dropped 𝓤 H A W 7 (shrSliceOf (2 ∷ []) tt (plain (λ _. u8))) yes (λ κs x f. refl) &
       goes-dropped 𝓤 H A W 7 (shrRefTo (3 ∷ []) tt (plain (λ _. TW.the-row))) yes (λ κs x f. refl) &
-      goes-gave-slice 𝓤 H A W 7 4 tt (plain (λ _. R)) & goes-gave-slice 𝓤 H A W 7 5 tt (plain (λ _. u8)) &
+      goes-gave-slice 𝓤 H A W 7 4 tt (plain (λ _. R)) &
+      goes-dropped 𝓤 H A W 7 (shrSliceOf (5 ∷ []) tt (plain (λ _. u8))) yes (λ κs x f. refl) &
       goes-dropped 𝓤 H A W 7 (shrSliceOf (6 ∷ []) tt (plain (λ _. u8))) yes (λ κs x f. refl) &
       goes-dropped 𝓤 H A W 7 (plain (λ _. u8)) yes (λ κs x f. refl) & tt
 
@@ -215,6 +213,6 @@ lagumtay-cancel-spec 𝓤 H 𝓜 𝓖 𝓡 =
     (tables 𝓤 H 𝓜 𝓡 code.env .C) (tables 𝓤 H 𝓜 𝓡 code.env .Λ) #lagumtay·lagumtay-cancel code.function
     (code.unfolded 𝓤 H 𝓜 𝓡)
     (meets 𝓤 H (𝓖 .A) (givenOf 𝓤 H 𝓜 𝓖) (𝓜 .mem) (𝓡 .run) (tablesOf 𝓤 H 𝓜 (tables 𝓤 H 𝓜 𝓡 code.env))
-    (cited 𝓤 H _ 𝓜 𝓡 code.env #lent·cancel cancel-def.routine code.calls-lent·cancel (cancel-thm.met 𝓤 H 𝓜 𝓖 𝓡) &
+    (cited 𝓤 H _ 𝓜 𝓡 code.env #page·cancel cancel-def.routine code.calls-page·cancel (cancel-thm.met 𝓤 H 𝓜 𝓖 𝓡) &
     cited 𝓤 H _ 𝓜 𝓡 code.env #protocol·ending-number number-def.routine code.calls-protocol·ending-number
     (number-thm.met 𝓤 H 𝓜 𝓖 𝓡)))

@@ -1,5 +1,5 @@
--- `lagumtay_open` meets its contract: a walk of its MIR, by hand. All that it knows of `lent::open` and of
--- `protocol::ending_number` is that each meets its contract. `lent::open` gets the slices at their own lifetimes,
+-- `lagumtay_open` meets its contract: a walk of its MIR, by hand. All that it knows of `page::open` and of
+-- `protocol::ending_number` is that each meets its contract. `page::open` gets the slices at their own lifetimes,
 -- shares and names (`gave-slice`). The writer stays owned, and the one that is answered is stored there (`stay-ref`).
 use mathlib.Core.Path.{_≡_, refl, ap}
 use Prim.Native.Nat.{ℕ}
@@ -53,25 +53,23 @@ use Rattle.protocol.proofs.Ending.Laws as TE′
 use Rattle.page.specs.declared.Opened.{Opened}
 use Rattle.page.proofs.Opened as TO
 use Rattle.page.proofs.Opened.Laws as TO′
-use Rattle.lent.specs.Calls.{openedLent, openLent}
-use Rattle.lent.proofs.Walks.Rules.Flat.{_&_}
-use Rattle.lent.proofs.Walks.Rules.Locals.{Slot, has, spread, wide, enters, leaves, arg}
-use Rattle.lent.proofs.Walks.Rules.Again.{lends-on}
-use Rattle.lent.proofs.Walks.Calls.Finished.{typed-opened}
-use Rattle.lent.proofs.Walks.Calls.Ended.{typed-ending}
+use Rattle.page.specs.Calls.{openedLent, openLent}
+use Rattle.page.proofs.Walks.Rules.Flat.{_&_}
+use Rattle.page.proofs.Walks.Rules.Locals.{Slot, has, spread, wide, enters, leaves, arg}
+use Rattle.page.proofs.Walks.Rules.Again.{lends-on}
 use Rattle.lagumtay.proofs.Laws.Opens.{opened-left}
 use Rattle.lagumtay.proofs.Walks.Lent.{the, in-order, format, writer, form, memory, vals, params, held}
-use Rattle.lagumtay.proofs.Walks.Lent.{loaded, lent-on, handed, handed-vals, last-readers, last-page}
+use Rattle.lagumtay.proofs.Walks.Lent.{loaded, all-lent-on, handed, handed-vals, last-readers, last-page}
 use Rattle.lagumtay.proofs.Walks.Lent.{last-buffers, memory-after}
 use Rattle.lagumtay.proofs.Walks.Loads.{loads-shr, loads-mut}
 use Rattle.lagumtay.proofs.Walks.Stores.{Mut, stores-mut}
 use Rattle.lagumtay.proofs.Walks.Apart.{tokens, apart, together, as-long}
 use Rattle.lagumtay.proofs.Walks.Facts.{calls-plain}
-use Rattle.lagumtay.proofs.Walks.Ending.{Numbers, numbers, typed-number}
-use Rattle.lent.proofs.open as g
-use Rattle.lent.proofs.open.Symbol as open-def
-use Rattle.lent.proofs.open.Symbol.{name as #lent·open}
-use Rattle.lent.proofs.open.Met as open-thm
+use Rattle.lagumtay.proofs.Walks.Ending.{Numbers, numbers, typed-ending, typed-number}
+use Rattle.page.proofs.open as g
+use Rattle.page.proofs.open.Symbol as open-def
+use Rattle.page.proofs.open.Symbol.{name as #page·open}
+use Rattle.page.proofs.open.Met as open-thm
 use Rattle.protocol.proofs.ending_number.Symbol as number-def
 use Rattle.protocol.proofs.ending_number.Symbol.{name as #protocol·ending-number}
 use Rattle.protocol.proofs.ending_number.Met as number-thm
@@ -93,7 +91,7 @@ stayed =
 abbrev Known : {M : Type 1} (𝓤 : URA M) (H : Heap 𝓤) (A : Atoms 𝓤) (mem : Memory → SProp 𝓤) (run : Routine → Fun 𝓤)
     → Calls 𝓤 H → Type 1
 Known 𝓤 H A mem run C =
-    Triple 𝓤 (C #lent·open) (tripleOf 𝓤 H A g.signature (g.spec 𝓤 H A mem run))
+    Triple 𝓤 (C #page·open) (tripleOf 𝓤 H A g.signature (g.spec 𝓤 H A mem run))
     × Triple 𝓤 (C #protocol·ending-number) (Numbers 𝓤 H A mem run)
 
 module _ {M : Type 1} (𝓤 : URA M) (H : Heap 𝓤) (A : Atoms 𝓤) (W : Given 𝓤 H A) (mem : Memory → SProp 𝓤)
@@ -110,7 +108,7 @@ module _ {M : Type 1} (𝓤 : URA M) (H : Heap 𝓤) (A : Atoms 𝓤) (W : Given
   abbrev Post : Val → SProp 𝓤
   Post = walkOf 𝓤 H A f.ended stayed (f.clauses 𝓤 H A mem run) .post ((κs, qs, tt, a, vs), tt)
 
-  -- what `lent::open` is handed, at these lifetimes and shares
+  -- what `page::open` is handed, at these lifetimes and shares
   abbrev λs : Lfts 5
   λs = in-order κs (κs .1 .1 .1 .1 .1 .1)
 
@@ -166,7 +164,7 @@ module _ {M : Type 1} (𝓤 : URA M) (H : Heap 𝓤) (A : Atoms 𝓤) (W : Given
     Held o w =
         has w ∷ held a (has (vint w64 (count .0)) ∷ has (the first) ∷ loaded a
         (has (LL.val TC.the-type TC′.the-laws count) ∷ has (LL.val TO.the-type TO′.the-laws o) ∷ has (ending o) ∷
-        lent-on a []))
+        all-lent-on a []))
 
     walk :
         ent 𝓤 (onEntry 𝓤 H A f.signature κs qs a vs)
@@ -200,7 +198,8 @@ module _ {M : Type 1} (𝓤 : URA M) (H : Heap 𝓤) (A : Atoms 𝓤) (W : Given
         (arg ! 19 refl (arg ! 13 refl (arg ! 6 refl (arg ! 21 refl (arg ! 14 refl (arg ! 23 refl (arg ! 15 refl
         (arg ! 12 refl (no-more !))))))))) Says (λ o ls. id⊢ 𝓤 _) (λ v o ls o-is said.
         let is = LL.owed TO.the-type TO′.the-laws o (v ∷ []) o-is in
-        land ! (from ! (stop !)) (init ! 17 refl (typed-opened 𝓤 H A W o v o-is)) $
+        land ! (from ! (stop !)) (init ! 17 refl
+        (LL.lawful TO.the-type TO′.the-laws 𝓤 H A W .typed o (v ∷ []) o-is .0)) $
         rewrite ! 17 (λ (y : Val). ‵ (fat fullShare TO′.mir (l 12) 0 y))
         (ap only (LL.tells TO.the-type TO′.the-laws o (v ∷ []) o-is)) refl $ move ! (2 ∷ 3 ∷ []) $
         -- [the writer; token 3; the tokens; the last values; token 0; _0; …]
@@ -249,6 +248,6 @@ lagumtay-open-spec 𝓤 H 𝓜 𝓖 𝓡 =
     (tables 𝓤 H 𝓜 𝓡 code.env .C) (tables 𝓤 H 𝓜 𝓡 code.env .Λ) #lagumtay·lagumtay-open code.function
     (code.unfolded 𝓤 H 𝓜 𝓡)
     (meets 𝓤 H (𝓖 .A) (givenOf 𝓤 H 𝓜 𝓖) (𝓜 .mem) (𝓡 .run) (tablesOf 𝓤 H 𝓜 (tables 𝓤 H 𝓜 𝓡 code.env))
-    (cited 𝓤 H _ 𝓜 𝓡 code.env #lent·open open-def.routine code.calls-lent·open (open-thm.met 𝓤 H 𝓜 𝓖 𝓡) &
+    (cited 𝓤 H _ 𝓜 𝓡 code.env #page·open open-def.routine code.calls-page·open (open-thm.met 𝓤 H 𝓜 𝓖 𝓡) &
     cited 𝓤 H _ 𝓜 𝓡 code.env #protocol·ending-number number-def.routine code.calls-protocol·ending-number
     (number-thm.met 𝓤 H 𝓜 𝓖 𝓡)))

@@ -1,6 +1,6 @@
 -- `lagumtay_run` meets its contract: a walk of its MIR, by hand. All that it knows of the functions that it calls is
 -- that each meets its contract.
--- The format and the writer are loaded. `lent::run` gets the slices at their own lifetimes, shares and names, since
+-- The format and the writer are loaded. `page::run` gets the slices at their own lifetimes, shares and names, since
 -- they are not needed after the call (`gave-slice`). The writer and the answer are stored (`stay-ref`).
 use mathlib.Core.Path.{_≡_, refl, ap}
 use Prim.Native.Nat.{ℕ}
@@ -44,20 +44,19 @@ use Rattle.protocol.proofs.Format as TF
 use Rattle.protocol.proofs.Format.Laws as TF′
 use Rattle.protocol.proofs.Writer as TW
 use Rattle.protocol.proofs.Writer.Laws as TW′
-use Rattle.page.specs.Carry.{Carries}
 use Rattle.page.specs.declared.Ran.{Ran}
 use Rattle.page.proofs.Ran as TR
 use Rattle.page.proofs.Ran.Laws as TR′
-use Rattle.lent.specs.Calls.{ranLent, runLent}
-use Rattle.lent.proofs.Walks.Rules.Both.{says-both}
-use Rattle.lent.proofs.Walks.Rules.Flat.{_&_}
-use Rattle.lent.proofs.Walks.Rules.Locals.{Slot, has, spread, wide, enters, leaves, arg}
-use Rattle.lent.proofs.Walks.Rules.Again.{lends-on}
-use Rattle.lent.proofs.run as g
-use Rattle.lent.proofs.run.Symbol as run-def
-use Rattle.lent.proofs.run.Symbol.{name as #lent·run}
-use Rattle.lent.proofs.run.Met as run-thm
-use Rattle.lagumtay.specs.Calls.{toldOf}
+use Rattle.page.specs.Calls.{ranLent, runLent, Carries}
+use Rattle.page.proofs.Walks.Rules.Both.{says-both}
+use Rattle.page.proofs.Walks.Rules.Flat.{_&_}
+use Rattle.page.proofs.Walks.Rules.Locals.{Slot, has, spread, wide, enters, leaves, arg}
+use Rattle.page.proofs.Walks.Rules.Again.{lends-on}
+use Rattle.page.proofs.run as g
+use Rattle.page.proofs.run.Symbol as run-def
+use Rattle.page.proofs.run.Symbol.{name as #page·run}
+use Rattle.page.proofs.run.Met as run-thm
+use Rattle.lagumtay.specs.Run.{toldOf}
 use Rattle.lagumtay.specs.declared.running.Answer.{Answer}
 use Rattle.lagumtay.specs.declared.running.Told.{Told}
 use Rattle.lagumtay.proofs.running.Answer as TA
@@ -66,7 +65,7 @@ use Rattle.lagumtay.proofs.running.Told as TT
 use Rattle.lagumtay.proofs.running.Told.Laws as TT′
 use Rattle.lagumtay.proofs.Laws.Runs.{told-run}
 use Rattle.lagumtay.proofs.Walks.Lent.{the, spot, in-order, format, writer, form, memory, vals, params, held}
-use Rattle.lagumtay.proofs.Walks.Lent.{loaded, lent-on, handed, handed-vals, last-readers, last-page}
+use Rattle.lagumtay.proofs.Walks.Lent.{loaded, lent-on, all-lent-on, handed, handed-vals, last-readers, last-page}
 use Rattle.lagumtay.proofs.Walks.Lent.{last-buffers, memory-after}
 use Rattle.lagumtay.proofs.Walks.Loads.{loads-shr, loads-mut}
 use Rattle.lagumtay.proofs.Walks.Stores.{Mut, stores-mut}
@@ -95,7 +94,7 @@ stayed =
 abbrev Known : {M : Type 1} (𝓤 : URA M) (H : Heap 𝓤) (A : Atoms 𝓤) (mem : Memory → SProp 𝓤) (run : Routine → Fun 𝓤)
     → Calls 𝓤 H → Type 1
 Known 𝓤 H A mem run C =
-    Triple 𝓤 (C #lent·run) (tripleOf 𝓤 H A g.signature (g.spec 𝓤 H A mem run))
+    Triple 𝓤 (C #page·run) (tripleOf 𝓤 H A g.signature (g.spec 𝓤 H A mem run))
     × Triple 𝓤 (C #lagumtay·tell) (tripleOf 𝓤 H A h.signature (h.spec 𝓤 H A mem run))
 
 module _ {M : Type 1} (𝓤 : URA M) (H : Heap 𝓤) (A : Atoms 𝓤) (W : Given 𝓤 H A) (mem : Memory → SProp 𝓤)
@@ -118,7 +117,7 @@ module _ {M : Type 1} (𝓤 : URA M) (H : Heap 𝓤) (A : Atoms 𝓤) (W : Given
   abbrev Post : Val → SProp 𝓤
   Post = walkOf 𝓤 H A f.ended stayed (f.clauses 𝓤 H A mem run) .post ((κs, qs, tt, a, vs), tt)
 
-  -- what `lent::run` is handed, at these lifetimes and shares
+  -- what `page::run` is handed, at these lifetimes and shares
   abbrev λs : Lfts 7
   λs = in-order κs (κs .1 .1 .1 .1 .1 .1 .0 & κs .1 .1 .1 .1 .1 .1 .1 .0 & κs .1 .1 .1 .1 .1 .1 .1 .1 .0 & tt)
 
@@ -180,7 +179,7 @@ module _ {M : Type 1} (𝓤 : URA M) (H : Heap 𝓤) (A : Atoms 𝓤) (W : Given
     Held v t =
         has (vint w8 (t .refusal)) ∷ held a (has (the records) ∷ has (the commands) ∷ has (the log) ∷
         has (spot answer) ∷ loaded a (has v ∷ has (LL.val TT.the-type TT′.the-laws t) ∷
-        lent-on a (has (spot log) ∷ has (the log) ∷ [])))
+        all-lent-on a (lent-on log [])))
 
     walk :
         ent 𝓤 (onEntry 𝓤 H A f.signature κs qs a vs)
@@ -279,6 +278,6 @@ lagumtay-run-spec 𝓤 H 𝓜 𝓖 𝓡 =
     (tables 𝓤 H 𝓜 𝓡 code.env .C) (tables 𝓤 H 𝓜 𝓡 code.env .Λ) #lagumtay·lagumtay-run code.function
     (code.unfolded 𝓤 H 𝓜 𝓡)
     (meets 𝓤 H (𝓖 .A) (givenOf 𝓤 H 𝓜 𝓖) (𝓜 .mem) (𝓡 .run) (tablesOf 𝓤 H 𝓜 (tables 𝓤 H 𝓜 𝓡 code.env))
-    (cited 𝓤 H _ 𝓜 𝓡 code.env #lent·run run-def.routine code.calls-lent·run (run-thm.met 𝓤 H 𝓜 𝓖 𝓡) &
+    (cited 𝓤 H _ 𝓜 𝓡 code.env #page·run run-def.routine code.calls-page·run (run-thm.met 𝓤 H 𝓜 𝓖 𝓡) &
     cited 𝓤 H _ 𝓜 𝓡 code.env #lagumtay·tell tell-def.routine code.calls-lagumtay·running·tell
     (tell-thm.met 𝓤 H 𝓜 𝓖 𝓡)))

@@ -2,7 +2,7 @@
 use borrow.Author.Needs.{needs}
 use mathlib.Core.Path.{ap}
 use Prim.Native.Nat.{ℕ}
-use Rattle.lagumtay.specs.Calls.{toldOf}
+use Rattle.lagumtay.specs.Run.{toldOf}
 use Rattle.lagumtay.specs.declared.running.Told.{Told}
 use Rattle.lagumtay.proofs.running.tell.Statement.{statement}
 use Rattle.lagumtay.proofs.running.tell.Tie as tie
@@ -16,7 +16,7 @@ returns c =
     let r = c .before .before .args .r in
     ap {B = Told}
     (λ (n : ℕ).
-    record { refusal = n; answer = record { done = r .done; written = r .written }; writer = r .writer })
+    record { refusal = n; answer = record { done = r .done; written = r .written; taken = r .taken }; writer = r .writer })
     (c .before .ending-number .ensures)
 
 pub tell-spec : {M : Type 1} → statement M

@@ -1,7 +1,7 @@
 -- The page is written from the left to the right, part by part.
 use borrow.Author.Needs.{needs}
 use mathlib.Core.Path.{_≡_, sym, ap, _∙_}
-use Prim.Native.Nat.{_≤_, _+_, _-_}
+use Prim.Native.Nat.{ℕ, _≤_, _+_, _-_}
 use native.Mathlib.Omega.{arith}
 use lib.ListN.{length, take, drop, replicate, length-replicate}
 use lib.Seq.{length-take-le}
@@ -9,22 +9,22 @@ use Rattle.radix.specs.Digits.{digits}
 use Rattle.radix.proofs.Theorems.RoundTrip.{length-digits}
 use Rattle.protocol.specs.Form.{formOf, versionBases}
 use Rattle.protocol.specs.State.{opened}
-use Rattle.page.specs.Entry.{overlay}
-use Rattle.page.proofs.Common.Forms.{good-counts}
-use Rattle.page.proofs.Common.Answers.{whole-digits}
-use Rattle.page.proofs.Laws.Openings.{zero-digits, once, twice, second-length, filled}
+use Rattle.codec.specs.Entry.{overlay}
+use Rattle.checks.proofs.Small.{of-small}
+use Rattle.checks.proofs.Forms.{good-counts}
+use Rattle.page.proofs.Calls.Filled.{zero-digits, whole-digits, once, twice, both-written, second-length, filled}
 use Rattle.page.proofs.opening.fill_page.Statement.{statement}
 use Rattle.page.proofs.opening.fill_page.Tie as tie
 
-add-end : tie.Need-add-end
-add-end c = search needs
+count-steps-requires : tie.Need-count-steps-requires
+count-steps-requires c κs = search needs
 
 slice-relend-prefix-write : tie.Need-slice-relend-prefix-write
 slice-relend-prefix-write c = search needs
 
 slice-aggregate-write : tie.Need-slice-aggregate-write
 slice-aggregate-write c =
-    let s = c .before .before .before .before in
+    let s = c .before .before .before .before .before in
     let m : length (s .args .bases .now) ≤ length (s .args .page .now) = omega arith in
     sym (length-take-le _ _ m)
 
@@ -43,42 +43,74 @@ part-write-end c = search needs
 write-requires-2 : tie.Need-write-requires-2
 write-requires-2 c κs = search needs
 
-add-put-zeros : tie.Need-add-put-zeros
-add-put-zeros c = search needs
-
 put-zeros-requires : tie.Need-put-zeros-requires
 put-zeros-requires c κs = search needs
 
-add-put-bytes : tie.Need-add-put-bytes
-add-put-bytes c = search needs
+content-start-requires : tie.Need-content-start-requires
+content-start-requires c κs = search needs
 
-add-put-bytes-2 : tie.Need-add-put-bytes-2
-add-put-bytes-2 c = search needs
+-- where the function began, seen from each call
+abbrev start₁ : tie.After-write → tie.Start
+start₁ c = c .before .before .before .before .before .before
+
+abbrev start₂ : tie.After-write2 → tie.Start
+start₂ c = start₁ (c .before .before .before .before)
+
+abbrev start₃ : tie.After-put-zeros → tie.Start
+start₃ c = start₂ (c .before .before .before .before)
+
+abbrev start₄ : tie.After-content-start → tie.Start
+start₄ c = start₃ (c .before .before .before .before)
+
+abbrev start₅ : tie.After-second-version → tie.Start
+start₅ c = start₄ (c .before .before .before .before .before)
+
+-- the places of the record's bytes and of the second version
+abbrev end₂ : tie.After-write2 → ℕ
+end₂ c = c .before .before .before .before .before .before .count-steps .result
+
+abbrev end₃ : tie.After-put-zeros → ℕ
+end₃ c = end₂ (c .before .before .before .before)
+
+content-here : (c : tie.After-content-start) →
+    c .content-start .result ≡ end₃ (c .before .before .before .before) + start₄ c .args .format .q
+content-here c =
+    let z = c .before .before .before .before in
+    c .content-start .ensures
+    ∙ of-small _ _ (start₄ c .pre .0)
+    ∙ ap (λ k. k + start₄ c .args .format .q)
+    (sym (z .before .before .before .before .before .before .before .before .before .before .count-steps .ensures))
+
+version-here : (c : tie.After-second-version) →
+    let a = start₅ c .args in
+    c .second-version .result
+    ≡ end₃ (c .before .before .before .before .before .before .before .before .before) + a .format .q + a .format .n
+version-here c =
+    let z = c .before .before .before .before .before .before .before .before .before in
+    let a = start₅ c .args in
+    c .second-version .ensures
+    ∙ of-small _ _ (start₅ c .pre .0)
+    ∙ ap (λ k. k + a .format .q + a .format .n)
+    (sym (z .before .before .before .before .before .before .before .before .before .before .count-steps .ensures))
 
 put-bytes-requires : tie.Need-put-bytes-requires
-put-bytes-requires c κs = search needs
+put-bytes-requires c κs = omega (arith, content-here c)
 
-add-put-zeros-2 : tie.Need-add-put-zeros-2
-add-put-zeros-2 c = search needs
-
-add-put-zeros-3 : tie.Need-add-put-zeros-3
-add-put-zeros-3 c = search needs
-
-add-put-zeros-4 : tie.Need-add-put-zeros-4
-add-put-zeros-4 c = search needs
+second-version-requires : tie.Need-second-version-requires
+second-version-requires c κs = search needs
 
 put-zeros-requires-2 : tie.Need-put-zeros-requires-2
-put-zeros-requires-2 c κs = search needs
+put-zeros-requires-2 c κs = omega (arith, version-here c)
 
 same-length : tie.Need-same-length
 same-length c = search needs
 
 -- what each of the two writes of digits leaves
 first-here : (c : tie.After-write) →
-    let a = c .before .before .before .before .before .args in
+    let a = start₁ c .args in
     c .write .last .1 .1 .0 ≡ digits (a .bases .now) (a .c .0)
 first-here c =
-    let s = c .before .before .before .before .before in
+    let s = start₁ c in
     let b = s .args .bases .now in
     let h : length b ≤ length (s .args .page .now) = omega arith in
     ap (λ x. x .out) (c .write .ensures)
@@ -86,52 +118,59 @@ first-here c =
     (length-take-le _ _ h) (s .pre .3)
 
 second-here : (c : tie.After-write2) →
-    let a = c .before .before .before .before .before .before .before .before .before .args in
+    let a = start₂ c .args in
     c .write2 .last .1 .1 .0 ≡ digits (a .bases .now) (a .c .0)
 second-here c =
-    let s = c .before .before .before .before .before .before .before .before .before in
+    let s = start₂ c in
     let b = s .args .bases .now in
     let m = length b in
     let w = c .before .before .before .before in
     let d = w .write .last .1 .1 .0 in
     let e : length d ≡ m = ap length (first-here w) ∙ length-digits b (s .args .c .0) in
     ap (λ x. x .out) (c .write2 .ensures)
-    ∙ whole-digits b (s .args .c .0) (take (m + m - m) (drop m (once m d (s .args .page .now))))
-    (good-counts _ (s .pre .0)) (second-length m d (s .args .page .now) e (omega arith)) (s .pre .3)
+    ∙ whole-digits b (s .args .c .0) (take (end₂ c - m) (drop m (once m d (s .args .page .now))))
+    (good-counts _ (s .pre .0))
+    (second-length m (end₂ c) d (s .args .page .now) (w .before .before .count-steps .ensures) e (omega arith)) (s .pre .3)
 
 -- the page after both, and after the first zeros
 zeros-here : (c : tie.After-put-zeros) →
-    let w = c .before .before .before .before in
-    let a = w .before .before .before .before .before .before .before .before .before .args in
+    let a = start₃ c .args in
     let m = length (a .bases .now) in
     c .put-zeros .last .0 ≡
-    overlay (twice m (digits (a .bases .now) (a .c .0)) (a .page .now)) (m + m) (replicate (a .format .q) 0)
+    overlay (twice m (end₃ c) (digits (a .bases .now) (a .c .0)) (a .page .now)) (end₃ c) (replicate (a .format .q) 0)
 zeros-here c =
     let w = c .before .before .before .before in
-    c .put-zeros .ensures ∙ rw (second-here w, first-here (w .before .before .before .before))
+    let a = start₃ c .args in
+    c .put-zeros .ensures
+    ∙ both-written (length (a .bases .now)) (end₃ c) (a .page .now) (replicate (a .format .q) 0)
+    (first-here (w .before .before .before .before)) (second-here w)
 
 returns : tie.Need-returns
 unfolding opened
 returns c =
     let last = c .before .before in
-    let r = last .before .before .before .before in
-    let z = r .before .before .before .before in
-    let s = z .before .before .before .before .before .before .before .before .before .before .before .before .before in
+    let v = last .before in
+    let r = v .before .before .before .before in
+    let k = r .before in
+    let z = k .before .before .before .before in
+    let s = start₃ z in
     let a = s .args in
     let b = a .bases .now in
     let q = a .format .q in
-    let v : digits (versionBases (formOf b (a .format))) 0 ≡ replicate q 0 =
+    let counted = z .before .before .before .before .before .before .before .before .before .before .count-steps .ensures in
+    let e : digits (versionBases (formOf b (a .format))) 0 ≡ replicate q 0 =
     zero-digits (replicate q (a .format .base)) ∙ rw (length-replicate q (a .format .base)) in
     last .put-zeros2 .ensures
-    ∙ rw (r .put-bytes .ensures, zeros-here z, v)
-    (filled (a .page .now) (digits b (a .c .0)) (replicate q 0) (a .«record» .now) (length b) q (a .format .n)
-    (length-digits b (a .c .0)) (length-replicate q 0) (s .pre .2) (s .pre .1))
+    ∙ rw (version-here v, r .put-bytes .ensures, content-here k, zeros-here z, e)
+    (filled (a .page .now) (digits b (a .c .0)) (replicate q 0) (a .«record» .now) (length b) (end₃ z) q (a .format .n)
+    counted (length-digits b (a .c .0)) (length-replicate q 0) (s .pre .2)
+    (s .pre .1 ∙ ap (λ k. k + (q + a .format .n + q)) (sym counted)))
 
 pub fill-page-spec : {M : Type 1} → statement M
 fill-page-spec =
     tie.close
     (tie.spec
-    add-end
+    count-steps-requires
     slice-relend-prefix-write
     slice-aggregate-write
     write-requires
@@ -139,14 +178,10 @@ fill-page-spec =
     part-write-start
     part-write-end
     write-requires-2
-    add-put-zeros
     put-zeros-requires
-    add-put-bytes
-    add-put-bytes-2
+    content-start-requires
     put-bytes-requires
-    add-put-zeros-2
-    add-put-zeros-3
-    add-put-zeros-4
+    second-version-requires
     put-zeros-requires-2
     same-length
     returns)

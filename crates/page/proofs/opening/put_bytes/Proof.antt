@@ -5,7 +5,7 @@ use Prim.Native.Nat.{ℕ, _≤_, _+_, _-_}
 use native.Mathlib.Omega.{arith}
 use lib.ListN.{length, set, getD}
 use lib.Seq.{paste, paste-zero}
-use Rattle.page.proofs.Common.Pastes.{paste-on, paste-size, paste-end}
+use Rattle.codec.proofs.Pastes.{paste-on, paste-size, paste-end}
 use Rattle.page.proofs.opening.put_bytes.Statement.{statement}
 use Rattle.page.proofs.opening.put_bytes.Tie as tie
 
@@ -46,8 +46,7 @@ loop-again c =
     let a = l .before .args in (
       omega arith,
       ap (λ (o : List ℕ). set o (a .at + l .loop .i) (getD (a .bytes .now) (l .loop .i) 0)) (l .loop .inv .1)
-          ∙ paste-on (a .out .now) (a .at) (a .bytes .now) (l .loop .i) (omega arith) (omega arith) _
-          refl,
+          ∙ paste-on (a .out .now) (a .at) (a .bytes .now) (l .loop .i) (omega arith) (omega arith) _ refl,
     )
 
 same-length : tie.Need-same-length Inv-loop μ-loop

@@ -1,70 +1,34 @@
--- The loop keeps: the list is the lent one with the first i zeros over it.
-use mathlib.Core.Path.{_≡_, ap, _∙_}
-use mathlib.Core.List.{List}
-use Prim.Native.Nat.{ℕ, _≤_, _+_, _-_}
-use native.Mathlib.Omega.{arith}
-use lib.ListN.{length, set}
-use Rattle.page.proofs.Common.Pastes.{zeroed, zeroed-none, zeroed-more, zeroed-length, zeroed-end}
+-- The zeros are put into a part of what is lent.
+use borrow.Author.Needs.{needs}
+use Rattle.page.proofs.Calls.Filled.{zeros-over}
 use Rattle.page.proofs.opening.put_zeros.Statement.{statement}
 use Rattle.page.proofs.opening.put_zeros.Tie as tie
 
-abbrev Inv-loop : tie.InvT-loop
-Inv-loop out₀ at k i₀ out i = (i ≤ k) × (out ≡ zeroed at k i out₀)
+add-end : tie.Need-add-end
+add-end c = search needs
 
-abbrev μ-loop : tie.MeasureT-loop
-μ-loop out₀ at k i₀ out i = k - i
+sub-zero : tie.Need-sub-zero
+sub-zero c = search needs
 
--- the list keeps its length
-long-here : (c : tie.At-loop Inv-loop μ-loop) → length (c .loop .out) ≡ length (c .before .args .out .now)
-long-here c =
-    let a = c .before .args in
-    ap length (c .loop .inv .1)
-    ∙ zeroed-length (a .at) (a .k) (c .loop .i) (a .out .now) (omega arith) (c .loop .inv .0)
+part-zero-start : tie.Need-part-zero-start
+part-zero-start c = search needs
 
-loop-holds : tie.Need-loop-holds Inv-loop μ-loop
-loop-holds c = let a = c .args in (omega arith, zeroed-none (a .at) (a .k) (a .out .now))
+part-zero-end : tie.Need-part-zero-end
+part-zero-end c = search needs
 
-add-out : tie.Need-add-out Inv-loop μ-loop
-add-out c = omega arith
+zero-requires : tie.Need-zero-requires
+zero-requires c κs = search needs
 
-slice-write-out : tie.Need-slice-write-out Inv-loop μ-loop
-slice-write-out c = omega (arith, long-here (c .before))
+same-length : tie.Need-same-length
+same-length c = search needs
 
-add-i : tie.Need-add-i Inv-loop μ-loop
-add-i c = omega arith
-
-loop-less : tie.Need-loop-less Inv-loop μ-loop
-loop-less c = omega arith
-
-loop-again : tie.Need-loop-again Inv-loop μ-loop
-loop-again c =
-    let l = c .before in
-    let a = l .before .args in (
-      omega arith,
-      ap (λ (o : List ℕ). set o (a .at + l .loop .i) 0) (l .loop .inv .1)
-          ∙ zeroed-more (a .at) (a .k) (l .loop .i) (a .out .now) (omega arith) (omega arith),
-    )
-
-same-length : tie.Need-same-length Inv-loop μ-loop
-same-length c = long-here (c .before)
-
-returns : tie.Need-returns Inv-loop μ-loop
+returns : tie.Need-returns
 returns c =
-    let l = c .before in
-    let a = l .before .args in
-    l .loop .inv .1 ∙ zeroed-end (a .at) (a .k) (l .loop .i) (a .out .now) (omega arith) (omega arith) (omega arith)
+    let z = c .before .before in
+    let s = z .before .before .before in
+    zeros-over (s .args .out .now) (s .args .at) (s .args .k) (s .pre) (z .zero .ensures)
 
 pub put-zeros-spec : {M : Type 1} → statement M
 put-zeros-spec =
     tie.close
-    (tie.spec
-    Inv-loop
-    μ-loop
-    loop-holds
-    add-out
-    slice-write-out
-    add-i
-    loop-less
-    loop-again
-    same-length
-    returns)
+    (tie.spec add-end sub-zero part-zero-start part-zero-end zero-requires same-length returns)

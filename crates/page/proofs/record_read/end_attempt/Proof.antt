@@ -1,124 +1,127 @@
--- By the two versions, the attempt is accepted or fails.
-use borrow.Author.Needs.{needs}
+-- The three ways are those of `endAttempt`.
+use mathlib.Core.Path.{_≡_, _∙_}
 use native.Mathlib.Omega.{arith}
-use Rattle.page.proofs.Laws.Readers.Attempts.{attempt-same, attempt-other}
+use lib.ListN.{take, drop, replicate, length-take}
+use Rattle.radix.specs.Digits.{value}
+use Rattle.checks.proofs.Forms.{good-versions}
+use Rattle.page.proofs.Readers.Attempts.{second-valid, second-part, attempt-same, attempt-again, attempt-over}
+use borrow.Author.Needs.{needs}
 use Rattle.page.proofs.record_read.end_attempt.Statement.{statement}
 use Rattle.page.proofs.record_read.end_attempt.Tie as tie
 
-index-requires : tie.Need-index-requires
-index-requires c κs = search needs
+add-end : tie.Need-add-end
+add-end c = search needs
 
-add-digits : tie.Need-add-digits
-add-digits c = search needs
+slice-reshare-prefix-version : tie.Need-slice-reshare-prefix-version
+slice-reshare-prefix-version c = search needs
 
-shared-slice-read-digits : tie.Need-shared-slice-read-digits
-shared-slice-read-digits c = search needs
+slice-aggregate-version : tie.Need-slice-aggregate-version
+slice-aggregate-version c = simp length-take (omega arith)
 
-mul-digits : tie.Need-mul-digits
-mul-digits c = search needs
+version-requires : tie.Need-version-requires
+version-requires c κs =
+    let p = c .before .before .before .before .pre in
+    (p .places .1, good-versions _ (p .form), p .one)
 
-add-digits-2 : tie.Need-add-digits-2
-add-digits-2 c = search needs
+sub-version : tie.Need-sub-version
+sub-version c = search needs
 
-element-write-digits : tie.Need-element-write-digits
-element-write-digits c = search needs
+part-version-start : tie.Need-part-version-start
+part-version-start c = search needs
 
-mul-version-at : tie.Need-mul-version-at
-mul-version-at c = search needs
+part-version-end : tie.Need-part-version-end
+part-version-end c = search needs
 
-version-at-requires : tie.Need-version-at-requires
-version-at-requires c κs =
-    let x = c .before .before .before in
-    let s = x .before .before .before .before in
-    rw (x .index .ensures) (s .pre .1 .first (s .pre .2))
+version-requires-2 : tie.Need-version-requires-2
+version-requires-2 c κs =
+    let s = c .before .before .before .before .before .before .before in
+    let p = s .pre in
+    let f = s .args .format in
+    (p .places .1, good-versions _ (p .form), second-valid (f .base) (f .q) (s .args .digits .now) (p .two))
 
-mul-version-at-2 : tie.Need-mul-version-at-2
-mul-version-at-2 c = search needs
-
-add-version-at : tie.Need-add-version-at
-add-version-at c = search needs
-
-version-at-requires-2 : tie.Need-version-at-requires-2
-version-at-requires-2 c κs =
-    let x = c .before .before .before .before .before .before in
-    let s = x .before .before .before .before in
-    rw (x .index .ensures) (s .pre .1 .second (s .pre .2))
-
-entry-requires : tie.Need-entry-requires
-entry-requires c κs = search needs
-
-element-copy-out-used : tie.Need-element-copy-out-used
-element-copy-out-used c = search needs
+-- the version that was found in the second copy
+second :
+    (c : tie.After-version2) →
+    let a = c .before .before .before .before .before .before .before .before .args in
+    c .version2 .result .0 ≡ value (replicate (a .format .q) (a .format .base)) (take (a .format .q) (drop 8 (a .digits .now)))
+second c =
+    let a = c .before .before .before .before .before .before .before .before .args in
+    second-part (a .format .base) (a .format .q) _ (a .digits .now) (c .version2 .ensures)
 
 add-used : tie.Need-add-used
-add-used c =
-    let y = c .before in
-    let k = y .before .before in
-    let f = k .before .before .before in
-    let x = f .before .before .before .before in
-    let e = x .index .ensures in
-    let s = x .before .before .before .before in
-    let h = rw (← e) at (s .pre .0 .attempts) in
-    omega (arith, y .entry .ensures)
+add-used c = search needs
 
-accept-requires : tie.Need-accept-requires
-accept-requires c κs = search needs
-
-returns : tie.Need-returns
-returns c =
-    let t = c .before .before .before .before .before .before in
-    let y = t .before .before .before .before in
-    let k = y .before .before in
-    let f = k .before .before .before in
-    let x = f .before .before .before .before in
-    let e = x .index .ensures in
-    let s = x .before .before .before .before in
-    attempt-same _ _ _ _ _ _ _ _ (rw e at (k .version-at2 .ensures)) (rw e at (f .version-at .ensures))
-    (s .pre .0 .free) (t .if1 .taken) (rw e at (c .accept .ensures))
-
-fail-requires : tie.Need-fail-requires
-fail-requires c κs =
-    let y = c .before .before .before .before .before .before .before .before .before .before in
-    let x = y .before .before .before .before .before .before .before .before .before in
-    let s = x .before .before .before .before in
-    (s .pre .0 .reader, s .pre .0 .places .3, s .pre .0 .room, rw (x .index .ensures) (omega arith))
+finish-requires : tie.Need-finish-requires
+finish-requires c κs = search needs
 
 same-length : tie.Need-same-length
 same-length c = search needs
 
+returns : tie.Need-returns
+returns c =
+    let z = c .before .before in
+    let i = z .before .before in
+    let v = i .before .before .before .before in
+    let u = v .before .before .before in
+    let s = u .before .before .before .before .before in
+    λ ds k. z .finish .ensures _ _
+    ∙ attempt-same _ _ _ _ _ _ (s .pre) ds k _ _ (second v) (u .version .ensures) (i .if1 .taken)
+
+again-requires : tie.Need-again-requires
+again-requires c κs = search needs
+
+same-length-2 : tie.Need-same-length-2
+same-length-2 c = search needs
+
 returns-2 : tie.Need-returns-2
 returns-2 c =
-    let b = c .before .before in
-    let z = b .before .before .before .before .before .before .before in
-    let y = z .before .before .before .before in
-    let k = y .before .before in
-    let f = k .before .before .before in
-    let x = f .before .before .before .before in
-    let e = x .index .ensures in
-    let s = x .before .before .before .before in
-    attempt-other _ _ _ _ _ _ _ _ (rw e at (k .version-at2 .ensures)) (rw e at (f .version-at .ensures))
-    (s .pre .0 .free) (z .if1 .left) (rw (y .entry .ensures, e) at (b .fail .ensures))
+    let z = c .before .before in
+    let i = z .before .before .before .before in
+    let v = i .before .before .before .before in
+    let u = v .before .before .before in
+    let s = u .before .before .before .before .before in
+    λ ds k. z .again .ensures _
+    ∙ attempt-again _ _ _ _ _ _ (s .pre) ds k _ _ (second v) (u .version .ensures) (i .if1 .left) (z .before .before .if2 .taken)
+
+give-up-requires : tie.Need-give-up-requires
+give-up-requires c κs = search needs
+
+same-length-3 : tie.Need-same-length-3
+same-length-3 c = search needs
+
+same-length-4 : tie.Need-same-length-4
+same-length-4 c = search needs
+
+returns-3 : tie.Need-returns-3
+returns-3 c =
+    let z = c .before .before .before .before in
+    let i = z .before .before .before .before .before in
+    let v = i .before .before .before .before in
+    let u = v .before .before .before in
+    let s = u .before .before .before .before .before in
+    λ ds k. z .give-up .ensures _
+    ∙ attempt-over _ _ _ _ _ _ (s .pre) ds k _ _ (second v) (u .version .ensures) (i .if1 .left) (z .before .before .before .if2 .left)
 
 pub end-attempt-spec : {M : Type 1} → statement M
 end-attempt-spec =
     tie.close
     (tie.spec
-    index-requires
-    add-digits
-    shared-slice-read-digits
-    mul-digits
-    add-digits-2
-    element-write-digits
-    mul-version-at
-    version-at-requires
-    mul-version-at-2
-    add-version-at
-    version-at-requires-2
-    entry-requires
-    element-copy-out-used
+    add-end
+    slice-reshare-prefix-version
+    slice-aggregate-version
+    version-requires
+    sub-version
+    part-version-start
+    part-version-end
+    version-requires-2
     add-used
-    accept-requires
-    returns
-    fail-requires
+    finish-requires
     same-length
-    returns-2)
+    returns
+    again-requires
+    same-length-2
+    returns-2
+    give-up-requires
+    same-length-3
+    same-length-4
+    returns-3)

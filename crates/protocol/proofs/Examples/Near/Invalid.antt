@@ -4,6 +4,7 @@ use mathlib.Core.List.{List, [], _∷_, _++_, map}
 use Prim.Native.Nat.{ℕ}
 use lib.ListN.{set, replicate}
 use Rattle.protocol.specs.Form.{Form}
+use Rattle.protocol.specs.Memory.{stageAt, readerOf}
 use Rattle.protocol.specs.Outcome.{endingNumber}
 use Rattle.protocol.specs.Run.{run}
 use Rattle.protocol.specs.declared.Writer.{Writer}
@@ -88,13 +89,7 @@ bad-writers = refl
 -- other, from the right
 
 abbrev pub reader : (kind a f k : ℕ) → (a₁ a₀ b₁ b₀ : ℕ) → Reader
-reader x a f k a₁ a₀ b₁ b₀ = record {
-  kind = x;
-  allowed = a;
-  finished = f;
-  steps = k;
-  digits = a₁ ∷ a₀ ∷ replicate 6 0 ++ (b₁ ∷ b₀ ∷ replicate 6 0);
-}
+reader x a f k a₁ a₀ b₁ b₀ = readerOf (stageAt x a f k) (a₁ ∷ a₀ ∷ replicate 6 0 ++ (b₁ ∷ b₀ ∷ replicate 6 0))
 
 -- as the last reader
 abbrev pub readers : List Reader → List ℕ
@@ -166,12 +161,8 @@ unfolding tried
 bad-attempting = refl
 
 -- digits past the places: position k of sixteen is 1
-pub bad-past : map (λ k. tried page restingWriter (record {
-  kind = 1;
-  allowed = 0;
-  finished = 0;
-  steps = 3;
-  digits = set (replicate 16 0) k 1;
-} ∷ idleReader ∷ [])) (2 ∷ 7 ∷ 10 ∷ 15 ∷ []) ≡ replicate 4 3
+pub bad-past :
+    map (λ k. tried page restingWriter (readerOf (stageAt 1 0 0 3) (set (replicate 16 0) k 1) ∷ idleReader ∷ []))
+    (2 ∷ 7 ∷ 10 ∷ 15 ∷ []) ≡ replicate 4 3
 unfolding tried
 bad-past = refl

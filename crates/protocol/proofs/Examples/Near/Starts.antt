@@ -5,7 +5,7 @@ use Prim.Native.Nat.{ℕ}
 use lib.ListN.{length, replicate}
 use Rattle.protocol.specs.Form.{Form}
 use Rattle.protocol.specs.Outcome.{endingNumber}
-use Rattle.protocol.specs.Memory.{Memory}
+use Rattle.protocol.specs.Memory.{Memory, stageAt, readerOf}
 use Rattle.protocol.specs.Run.{openPage, Ran, run}
 use Rattle.protocol.specs.declared.Writer.{Writer}
 use Rattle.protocol.specs.declared.Reader.{Reader}
@@ -19,10 +19,10 @@ abbrev pub restingWriter : Writer
 restingWriter = record { kind = 0; count = count 0; version = version 0; index = 0; steps = 0 }
 
 abbrev pub idleReader : Reader
-idleReader = record { kind = 0; allowed = 0; finished = 0; steps = 0; digits = replicate 16 0 }
+idleReader = readerOf (stageAt 0 0 0 0) (replicate 16 0)
 
 abbrev pub nowhere : Reader
-nowhere = record { kind = 3; allowed = 0; finished = 0; steps = 0; digits = replicate 16 0 }
+nowhere = readerOf (stageAt 3 0 0 0) (replicate 16 0)
 
 abbrev pub memory : List ℕ → List Reader → List ℕ → Memory
 memory page rs bs = record { page = page; writer = restingWriter; readers = rs; buffers = bs }

@@ -1,45 +1,32 @@
--- The loop keeps: x, moved up by the bytes from i on, and those bytes make up the whole number.
+-- The loop keeps `Reads`.
 use borrow.Author.Needs.{needs}
-use mathlib.Core.Path.{_≡_, sym, _∙_}
-use Prim.Native.Nat.{_+_, _*_, _-_, _^_, _≤_, _<_}
+use Prim.Native.Nat.{_+_, _*_, _-_, _^_, _<_}
 use native.Mathlib.Omega.{arith}
-use lib.ListN.{getD, take, drop}
-use Rattle.page.proofs.Common.Bytes.{whole, whole-on, whole-end}
-use Rattle.report.specs.Header.{number}
-use Rattle.report.proofs.Laws.Numbers.{part-length, part-at, part-fits}
+use lib.ListN.{getD}
+use Rattle.codec.proofs.Bytes.{Reads, reads-none, reads-fits, reads-on, reads-all}
 use Rattle.report.proofs.bytes.number.Statement.{statement}
 use Rattle.report.proofs.bytes.number.Tie as tie
 
 abbrev Inv-loop : tie.InvT-loop
-Inv-loop s at k x₀ i₀ x i = (i ≤ k) × (whole (take k (drop at s)) x i ≡ number k at s)
+Inv-loop s at x₀ k₀ x k = Reads s at 8 x k
 
 abbrev μ-loop : tie.MeasureT-loop
-μ-loop s at k x₀ i₀ x i = k - i
+μ-loop s at x₀ k₀ x k = 8 - k
 
 loop-holds : tie.Need-loop-holds Inv-loop μ-loop
-loop-holds c = (search needs, omega arith)
+loop-holds c = let a = c .before .args in reads-none (a .s .now) (a .at) 8
 
 -- the next byte fits
 fits-here : (c : tie.In-loop Inv-loop μ-loop) →
-    let a = c .before .before .before .args in
-    c .before .loop .x * 256 + getD (take (a .k) (drop (a .at) (a .s .now))) (c .before .loop .i) 0 < 2 ^ 64
+    let l = c .before in
+    let a = l .before .before .args in
+    l .loop .x * 256 + getD (a .s .now) (a .at + l .loop .k) 0 < 2 ^ 64
 fits-here c =
-    let k = c .before .before in
+    let l = c .before in
+    let k = l .before in
     let s = k .before in
-    let a = s .args in
-    part-fits (a .s .now) (a .at) (a .k) (s .pre .1) (s .pre .0) (λ i. omega (arith, k .shared-slice-known .given i))
-    (c .before .loop .x) (c .before .loop .i) (c .loop-test .taken) (c .before .loop .inv .1)
-
--- and it is the byte that is read
-next-here : (c : tie.After-wide Inv-loop μ-loop) →
-    let t = c .before .before .before in
-    let a = t .before .before .args in
-    c .wide .result ≡ getD (take (a .k) (drop (a .at) (a .s .now))) (t .loop .i) 0
-next-here c =
-    let t = c .before .before in
-    let s = t .before .before .before in
-    c .wide .ensures
-    ∙ sym (part-at (s .args .s .now) (s .args .at) (s .args .k) (s .pre .1) (t .before .loop .i) (t .loop-test .taken))
+    reads-fits (s .args .s .now) (s .args .at) 8 (s .pre) (l .loop .x) (l .loop .k) (l .loop .inv) (omega arith)
+    (λ i. omega (arith, k .shared-slice-known .given i)) (c .loop-test .taken)
 
 mul-x : tie.Need-mul-x Inv-loop μ-loop
 mul-x c = record { fits = omega (arith, fits-here c) }
@@ -54,33 +41,26 @@ wide-requires : tie.Need-wide-requires Inv-loop μ-loop
 wide-requires c κs = search needs
 
 add-x : tie.Need-add-x Inv-loop μ-loop
-add-x c = record { fits = rw (next-here c) (fits-here (c .before .before)) }
+add-x c = record { fits = rw (c .wide .ensures) (fits-here (c .before .before)) }
 
-add-i : tie.Need-add-i Inv-loop μ-loop
-add-i c = search needs
+add-k : tie.Need-add-k Inv-loop μ-loop
+add-k c = search needs
 
 loop-less : tie.Need-loop-less Inv-loop μ-loop
 loop-less c = search needs
 
 loop-again : tie.Need-loop-again Inv-loop μ-loop
 loop-again c =
-    let t = c .before .before in
-    let s = t .before .before .before in
-    let a = s .args in
-    let l = part-length (a .s .now) (a .at) (a .k) (s .pre .1) in (
-      search needs,
-      rw (next-here c)
-          (whole-on (take (a .k) (drop (a .at) (a .s .now))) (t .before .loop .x) (t .before .loop .i) (omega arith))
-          ∙ t .before .loop .inv .1,
-    )
+    let l = c .before .before .before in
+    let s = l .before .before in
+    reads-on (s .args .s .now) (s .args .at) 8 (s .pre) (l .loop .x) (l .loop .k) (l .loop .inv) (omega arith)
+    (c .wide .ensures)
 
 returns : tie.Need-returns Inv-loop μ-loop
 returns c =
-    let s = c .before .before .before in
-    let a = s .args in
-    let l = part-length (a .s .now) (a .at) (a .k) (s .pre .1) in
-    sym (whole-end (take (a .k) (drop (a .at) (a .s .now))) (c .before .loop .x) (c .before .loop .i) (omega arith))
-    ∙ c .before .loop .inv .1
+    let l = c .before in
+    let s = l .before .before in
+    reads-all (s .args .s .now) (s .args .at) 8 (s .pre) (l .loop .x) (l .loop .k) (l .loop .inv) (omega arith)
 
 pub number-spec : {M : Type 1} → statement M
 number-spec =
@@ -94,7 +74,7 @@ number-spec =
     shared-slice-read-wide
     wide-requires
     add-x
-    add-i
+    add-k
     loop-less
     loop-again
     returns)

@@ -1,19 +1,18 @@
 -- The letter, the reader, the attempts, the version, the record and the line's end, one after the other.
 use borrow.Author.Needs.{needs}
-use mathlib.Core.Path.{_∙_}
+use mathlib.Core.Path.{refl}
 use mathlib.Core.List.{List, [], _∷_, _++_, append-assoc}
 use Prim.Native.Nat.{ℕ, _+_, _*_, _≤_}
 use native.Mathlib.Omega.{arith}
-use lib.ListN.{length, getD, take, drop, length-take}
-use Rattle.radix.specs.Digits.{ofBytes}
+use lib.ListN.{length, take, drop, length-take}
 use Rattle.report.specs.Text.{decimal, hex, acceptedLine}
 use Rattle.report.proofs.Laws.Lines.{Line, room, line-first, line-word, line-hex, line-end}
-use Rattle.report.proofs.Laws.Parts.{number-last, part, part-fits, part-length}
+use Rattle.report.proofs.Laws.Parts.{part, part-fits, part-length}
 use Rattle.report.proofs.line.put_accepted.Statement.{statement}
 use Rattle.report.proofs.line.put_accepted.Tie as tie
 
 abbrev start₀ : tie.After-index → tie.Start
-start₀ c = c .before .before .before .before .before
+start₀ c = c .before .before .before
 
 -- the reader's buffer is there
 held :
@@ -23,7 +22,7 @@ held :
 held c =
     let s = start₀ c in
     let a = s .args in
-    part-fits (a .buffers .now) (c .index .result) (a .n) (getD (a .entry .now) 1 0) (c .index .ensures) (s .pre .3)
+    part-fits (a .buffers .now) (c .index .result) (a .n) (a .who) (c .index .ensures) (s .pre .2)
 
 abbrev start₁ : tie.After-put-letter → tie.Start
 start₁ c = start₀ (c .before .before)
@@ -34,13 +33,13 @@ letter :
 letter c = line-first 82 (start₁ c .pre .0) (c .put-letter .ensures)
 
 abbrev put₁ : tie.After-put-word → tie.After-put-letter
-put₁ c = c .before .before .before .before .before .before
+put₁ c = c .before .before .before .before .before
 
 abbrev start₂ : tie.After-put-word → tie.Start
 start₂ c = start₁ (put₁ c)
 
 abbrev text₂ : tie.Start → List ℕ
-text₂ s = 82 ∷ 32 ∷ decimal (getD (s .args .entry .now) 1 0)
+text₂ s = 82 ∷ 32 ∷ decimal (s .args .who)
 
 reader :
     (c : tie.After-put-word) →
@@ -48,13 +47,13 @@ reader :
 reader c = line-word (letter (put₁ c)) (c .before .wide .ensures) (c .put-word .ensures) (omega arith)
 
 abbrev put₂ : tie.After-put-word2 → tie.After-put-word
-put₂ c = c .before .before .before .before .before .before
+put₂ c = c .before .before .before .before .before
 
 abbrev start₃ : tie.After-put-word2 → tie.Start
 start₃ c = start₂ (put₂ c)
 
 abbrev text₃ : tie.Start → List ℕ
-text₃ s = text₂ s ++ (32 ∷ decimal (getD (s .args .entry .now) 2 0))
+text₃ s = text₂ s ++ (32 ∷ decimal (s .args .used))
 
 attempts :
     (c : tie.After-put-word2) →
@@ -68,15 +67,12 @@ abbrev start₄ : tie.After-put-word3 → tie.Start
 start₄ c = start₃ (put₃ c)
 
 abbrev text₄ : tie.Start → List ℕ
-text₄ s = text₃ s ++ (32 ∷ decimal (ofBytes (drop 3 (s .args .entry .now))))
+text₄ s = text₃ s ++ (32 ∷ decimal (s .args .v .0))
 
 version :
     (c : tie.After-put-word3) →
     Line (start₄ c .args .out .now) (c .put-word3 .last .0) (c .put-word3 .result) (text₄ (start₄ c)) 64
-version c =
-    let s = start₄ c in
-    line-word (attempts (put₃ c)) (c .before .number .ensures ∙ number-last 4 3 (s .args .entry .now) (s .pre .1))
-    (c .put-word3 .ensures) (omega arith)
+version c = line-word (attempts (put₃ c)) refl (c .put-word3 .ensures) (omega arith)
 
 abbrev index₄ : tie.After-put-word3 → tie.After-index
 index₄ c = put₁ (put₂ (put₃ c)) .before .before
@@ -90,7 +86,7 @@ start₅ c = start₄ (put₄ c)
 abbrev text₅ : tie.Start → List ℕ
 text₅ s =
     let a = s .args in
-    text₄ s ++ (32 ∷ hex (take (a .n) (drop (getD (a .entry .now) 1 0 * a .n) (a .buffers .now))))
+    text₄ s ++ (32 ∷ hex (take (a .n) (drop (a .who * a .n) (a .buffers .now))))
 
 bytes :
     (c : tie.After-put-hex-word) →
@@ -100,11 +96,8 @@ bytes c =
     let s = start₀ i in
     let a = s .args in
     line-hex (version (put₄ c))
-    (part (a .buffers .now) (i .index .result) (a .n) (getD (a .entry .now) 1 0) (i .index .ensures))
-    (c .put-hex-word .ensures) (simp length-take (omega (arith, s .pre .2))) (omega arith)
-
-shared-slice-read-index : tie.Need-shared-slice-read-index
-shared-slice-read-index c = search needs
+    (part (a .buffers .now) (i .index .result) (a .n) (a .who) (i .index .ensures))
+    (c .put-hex-word .ensures) (simp length-take (omega (arith, s .pre .1))) (omega arith)
 
 index-requires : tie.Need-index-requires
 index-requires c κs = search needs
@@ -118,26 +111,20 @@ add-to c = omega (arith, held c)
 put-letter-requires : tie.Need-put-letter-requires
 put-letter-requires c κs = search needs
 
-shared-slice-read-wide : tie.Need-shared-slice-read-wide
-shared-slice-read-wide c = search needs
-
 wide-requires : tie.Need-wide-requires
 wide-requires c κs = search needs
 
 put-word-requires : tie.Need-put-word-requires
-put-word-requires c κs = room (letter (c .before .before .before .before .before)) 21 (omega arith)
-
-shared-slice-read-wide-2 : tie.Need-shared-slice-read-wide-2
-shared-slice-read-wide-2 c = search needs
+put-word-requires c κs = room (letter (c .before .before .before .before)) 21 (omega arith)
 
 wide-requires-2 : tie.Need-wide-requires-2
 wide-requires-2 c κs = search needs
 
 put-word-requires-2 : tie.Need-put-word-requires-2
-put-word-requires-2 c κs = room (reader (c .before .before .before .before .before)) 21 (omega arith)
+put-word-requires-2 c κs = room (reader (c .before .before .before .before)) 21 (omega arith)
 
-number-requires : tie.Need-number-requires
-number-requires c κs = search needs
+cast-put-word : tie.Need-cast-put-word
+cast-put-word c = search needs
 
 put-word-requires-3 : tie.Need-put-word-requires-3
 put-word-requires-3 c κs = room (attempts (c .before .before .before .before)) 21 (omega arith)
@@ -157,7 +144,7 @@ put-hex-word-requires c κs =
     let i = index₄ p in
     let s = start₀ i in
     let e = part-length (s .args .buffers .now) (i .index .result) (s .args .n) in
-    omega (arith, room (version p) 513 (omega arith), s .pre .2)
+    omega (arith, room (version p) 513 (omega arith), s .pre .1)
 
 put-letter-requires-2 : tie.Need-put-letter-requires-2
 put-letter-requires-2 c κs = let v = room (bytes (c .before .before .before)) 1 (omega arith) in omega arith
@@ -170,25 +157,22 @@ returns c =
     let p = c .before .before in
     let q = p .before .before .before .before in
     let a = start₅ q .args in
-    line-end (bytes q) (acceptedLine (a .n) (a .buffers .now) (a .entry .now)) (p .put-letter2 .ensures) (omega arith)
+    line-end (bytes q) (acceptedLine (a .n) (a .buffers .now) (a .who) (a .used) (a .v .0)) (p .put-letter2 .ensures) (omega arith)
     (simp append-assoc)
 
 pub put-accepted-spec : {M : Type 1} → statement M
 put-accepted-spec =
     tie.close
     (tie.spec
-    shared-slice-read-index
     index-requires
     mul-from
     add-to
     put-letter-requires
-    shared-slice-read-wide
     wide-requires
     put-word-requires
-    shared-slice-read-wide-2
     wide-requires-2
     put-word-requires-2
-    number-requires
+    cast-put-word
     put-word-requires-3
     sub-put-hex-word
     part-put-hex-word-start

@@ -3,28 +3,27 @@ use borrow.Author.Needs.{needs}
 use mathlib.Core.List.{List, [], _∷_, _++_, append-assoc}
 use Prim.Native.Nat.{ℕ}
 use native.Mathlib.Omega.{arith}
-use lib.ListN.{getD}
 use Rattle.report.specs.Text.{decimal, gaveUpLine}
 use Rattle.report.proofs.Laws.Lines.{Line, room, line-first, line-word, line-end}
 use Rattle.report.proofs.line.put_gave_up.Statement.{statement}
 use Rattle.report.proofs.line.put_gave_up.Tie as tie
 
 abbrev start₁ : tie.After-put-letter → tie.Start
-start₁ c = c .before .before .before .before
+start₁ c = c .before .before .before
 
 letter :
     (c : tie.After-put-letter) →
     Line (start₁ c .args .out .now) (c .put-letter .last .0) (c .put-letter .result) (71 ∷ []) 1
-letter c = line-first 71 (start₁ c .pre .0) (c .put-letter .ensures)
+letter c = line-first 71 (start₁ c .pre) (c .put-letter .ensures)
 
 abbrev put₁ : tie.After-put-word → tie.After-put-letter
-put₁ c = c .before .before .before .before .before .before
+put₁ c = c .before .before .before .before .before
 
 abbrev start₂ : tie.After-put-word → tie.Start
 start₂ c = start₁ (put₁ c)
 
 abbrev text₂ : tie.Start → List ℕ
-text₂ s = 71 ∷ 32 ∷ decimal (getD (s .args .entry .now) 1 0)
+text₂ s = 71 ∷ 32 ∷ decimal (s .args .who)
 
 reader :
     (c : tie.After-put-word) →
@@ -32,13 +31,13 @@ reader :
 reader c = line-word (letter (put₁ c)) (c .before .wide .ensures) (c .put-word .ensures) (omega arith)
 
 abbrev put₂ : tie.After-put-word2 → tie.After-put-word
-put₂ c = c .before .before .before .before .before .before
+put₂ c = c .before .before .before .before .before
 
 abbrev start₃ : tie.After-put-word2 → tie.Start
 start₃ c = start₂ (put₂ c)
 
 abbrev text₃ : tie.Start → List ℕ
-text₃ s = text₂ s ++ (32 ∷ decimal (getD (s .args .entry .now) 2 0))
+text₃ s = text₂ s ++ (32 ∷ decimal (s .args .used))
 
 attempts :
     (c : tie.After-put-word2) →
@@ -48,23 +47,17 @@ attempts c = line-word (reader (put₂ c)) (c .before .wide2 .ensures) (c .put-w
 put-letter-requires : tie.Need-put-letter-requires
 put-letter-requires c κs = search needs
 
-shared-slice-read-wide : tie.Need-shared-slice-read-wide
-shared-slice-read-wide c = search needs
-
 wide-requires : tie.Need-wide-requires
 wide-requires c κs = search needs
 
 put-word-requires : tie.Need-put-word-requires
-put-word-requires c κs = room (letter (c .before .before .before .before .before)) 21 (omega arith)
-
-shared-slice-read-wide-2 : tie.Need-shared-slice-read-wide-2
-shared-slice-read-wide-2 c = search needs
+put-word-requires c κs = room (letter (c .before .before .before .before)) 21 (omega arith)
 
 wide-requires-2 : tie.Need-wide-requires-2
 wide-requires-2 c κs = search needs
 
 put-word-requires-2 : tie.Need-put-word-requires-2
-put-word-requires-2 c κs = room (reader (c .before .before .before .before .before)) 21 (omega arith)
+put-word-requires-2 c κs = room (reader (c .before .before .before .before)) 21 (omega arith)
 
 put-letter-requires-2 : tie.Need-put-letter-requires-2
 put-letter-requires-2 c κs = let v = room (attempts (c .before .before .before)) 1 (omega arith) in omega arith
@@ -76,18 +69,16 @@ returns : tie.Need-returns
 returns c =
     let p = c .before .before in
     let q = p .before .before .before .before in
-    line-end (attempts q) (gaveUpLine (start₃ q .args .entry .now)) (p .put-letter2 .ensures) (omega arith)
-    (simp append-assoc)
+    let a = start₃ q .args in
+    line-end (attempts q) (gaveUpLine (a .who) (a .used)) (p .put-letter2 .ensures) (omega arith) (simp append-assoc)
 
 pub put-gave-up-spec : {M : Type 1} → statement M
 put-gave-up-spec =
     tie.close
     (tie.spec
     put-letter-requires
-    shared-slice-read-wide
     wide-requires
     put-word-requires
-    shared-slice-read-wide-2
     wide-requires-2
     put-word-requires-2
     put-letter-requires-2

@@ -4,7 +4,7 @@ use mathlib.Core.Path.{sym, ap, _∙_}
 use native.Mathlib.Omega.{arith}
 use Rattle.report.specs.Turn.{spaceOf}
 use Rattle.report.proofs.Laws.Taken.{Taken, taken, refused-is}
-use Rattle.report.proofs.Laws.Spaces.{space-is, page-fits, buffers-fit}
+use Rattle.report.proofs.Laws.Spaces.{space-is, page-fits, buffers-fit, states-fit}
 use Rattle.report.proofs.opening.room.Statement.{statement}
 use Rattle.report.proofs.opening.room.Tie as tie
 
@@ -23,7 +23,7 @@ returns c =
     let p = c .before .before in
     let a = p .before .before .args in (
       sym (ap spaceOf (refused-is (a .input .now) _ _ (sym (p .parse .ensures) ∙ c .enum-told .given .1))),
-      (search needs, search needs),
+      (search needs, search needs, search needs),
     )
 
 taken-here : (c : tie.After-p) →
@@ -50,10 +50,15 @@ mul-t11 c =
     let t = taken-here (c .before .before .before .before .before .before) in
     record { fits = omega (arith, buffers-fit t) }
 
+mul-t12 : tie.Need-mul-t12
+mul-t12 c =
+    let t = taken-here (c .before .before .before .before .before .before .before) in
+    record { fits = omega (arith, states-fit t) }
+
 returns-2 : tie.Need-returns-2
 returns-2 c =
-    let t = taken-here (c .before .before .before .before .before .before) in
-    (space-is t, (page-fits t, buffers-fit t))
+    let t = taken-here (c .before .before .before .before .before .before .before) in
+    (space-is t, (page-fits t, buffers-fit t, states-fit t))
 
 pub room-spec : {M : Type 1} → statement M
 room-spec =
@@ -68,4 +73,5 @@ room-spec =
     add-t9
     add-t10
     mul-t11
+    mul-t12
     returns-2)

@@ -1,29 +1,22 @@
 -- An accepted header is opened as it says; a refused one leaves all that is lent.
 use borrow.Author.Needs.{needs}
 use mathlib.Core.Path.{sym, ap, _∙_}
-use mathlib.Core.List.{map}
 use native.Mathlib.Omega.{arith}
-use Prim.Native.Nat.{_+_, _*_, _≤_}
+use Prim.Native.Nat.{_≤_}
 use lib.ListN.{length}
 use lib.Seq.{length-take-le}
-use Rattle.protocol.specs.Lists.{range}
-use Rattle.page.specs.Store.{store}
-use Rattle.page.specs.Carry.{Here, here}
-use Rattle.report.specs.Header.{number}
+use Rattle.page.specs.Kept.{Kept, kept}
 use Rattle.report.proofs.Laws.Taken.{Taken, taken, refused-is}
 use Rattle.report.proofs.Turns.Calls.{form-is, first-is, start-refused, start-opened}
 use Rattle.report.proofs.opening.start.Statement.{statement}
 use Rattle.report.proofs.opening.start.Tie as tie
 
 -- what is lent
-abbrev here-of : tie.Start → Here
-here-of s =
-    let a = s .args in
-    here (a .page .now) (a .writer)
-    (store (a .kinds .now) (a .allowed .now) (a .finished .now) (a .steps .now) (a .digits .now)) (a .buffers .now)
+abbrev kept-of : tie.Start → Kept
+kept-of s = let a = s .args in kept (a .page .now) (a .writer) (a .states .now) (a .buffers .now)
 
 abbrev start-of : tie.After-parse → tie.Start
-start-of c = c .before .before .before .before
+start-of c = c .before .before .before .before .before
 
 taken-here : (c : tie.After-p) →
     let a = start-of (c .before .before) .args in
@@ -43,7 +36,7 @@ returns : tie.Need-returns
 returns c =
     let p = c .before .before in
     let s = start-of p in
-    start-refused (here-of s) _ _
+    start-refused (kept-of s) _ _
     (refused-is (s .args .input .now) _ _ (sym (p .parse .ensures) ∙ c .enum-told .given .1))
 
 bases-requires : tie.Need-bases-requires
@@ -68,25 +61,25 @@ few c =
     omega (arith, ap (λ h. h .m) (t .is-found), t .allowed .few-places, c .before .bases .ensures .0)
 
 array-share-prefix-all : tie.Need-array-share-prefix-all
-array-share-prefix-all c = few c
+array-share-prefix-all c = few (c .before)
 
-slice-aggregate-open : tie.Need-slice-aggregate-open
-slice-aggregate-open c = sym (length-take-le _ _ (few (c .before)))
+slice-aggregate-open-packed : tie.Need-slice-aggregate-open-packed
+slice-aggregate-open-packed c = sym (length-take-le _ _ (few (c .before .before)))
 
-sub-open : tie.Need-sub-open
-sub-open c = search needs
+sub-open-packed : tie.Need-sub-open-packed
+sub-open-packed c = search needs
 
-part-open-start : tie.Need-part-open-start
-part-open-start c = search needs
+part-open-packed-start : tie.Need-part-open-packed-start
+part-open-packed-start c = search needs
 
-part-open-end : tie.Need-part-open-end
-part-open-end c =
-    let t = taken-here (known (c .before .before .before .before .before .before .before .before)) in
+part-open-packed-end : tie.Need-part-open-packed-end
+part-open-packed-end c =
+    let t = taken-here (known (c .before .before .before .before)) in
     let f = t .is-found in
     omega (arith, ap (λ h. h .first) f, ap (λ h. h .format .n) f, t .allowed .first-ends)
 
-open-requires : tie.Need-open-requires
-open-requires c κs = search needs
+open-packed-requires : tie.Need-open-packed-requires
+open-packed-requires c κs = search needs
 
 same-length : tie.Need-same-length
 same-length c = search needs
@@ -94,22 +87,20 @@ same-length c = search needs
 same-length-2 : tie.Need-same-length-2
 same-length-2 c = search needs
 
+same-length-3 : tie.Need-same-length-3
+same-length-3 c = search needs
+
 returns-2 : tie.Need-returns-2
 returns-2 c =
-    let o = c .before .before .before .before .before in
-    let k = o .before .before .before .before .before .before .before .before .before .before in
+    let o = c .before .before .before .before .before .before .before in
+    let k = o .before .before .before .before .before .before in
     let p = known k in
+    let f = p .p .given .0 .0 in
     let t = taken-here p in
     let s = start-of (p .before .before) in
     let i = s .args .input .now in
-    let b =
-    k .before .bases .ensures .1
-    ∙ ap (λ n. map (λ j. number 2 (1 + 2 * j) i) (range 0 n)) (ap (λ h. h .m) (t .is-found))
-    in
-    start-opened i (here-of s) _ (p .p .given .0 .0) (t .is-header) (t .is-found)
-    (form-is i (p .p .given .0 .0) _ (t .is-found) b)
-    (first-is i (p .p .given .0 .0) (t .is-found))
-    (o .«open» .ensures)
+    start-opened i (kept-of s) _ f (t .is-header) (t .is-found) (form-is i f (t .is-found) (k .before .bases .ensures .1))
+    (first-is i f (t .is-found)) (o .open-packed .ensures)
 
 pub start-spec : {M : Type 1} → statement M
 start-spec =
@@ -122,11 +113,12 @@ start-spec =
     bases-requires
     add-to
     array-share-prefix-all
-    slice-aggregate-open
-    sub-open
-    part-open-start
-    part-open-end
-    open-requires
+    slice-aggregate-open-packed
+    sub-open-packed
+    part-open-packed-start
+    part-open-packed-end
+    open-packed-requires
     same-length
     same-length-2
+    same-length-3
     returns-2)

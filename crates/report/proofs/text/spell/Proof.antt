@@ -3,7 +3,7 @@ use mathlib.Core.Path.{_≡_, refl}
 use Prim.Native.Nat.{_≤_}
 use native.Mathlib.Omega.{arith}
 use lib.ListN.{length, length-set}
-use Rattle.page.specs.Entry.{overlay}
+use Rattle.codec.specs.Entry.{overlay}
 use Rattle.report.specs.Text.{decimal}
 use Rattle.report.proofs.Laws.Spelling.{Spelling, spelling-all, spelling-on, spelling-none}
 use Rattle.report.proofs.text.spell.Statement.{statement}

@@ -1,110 +1,89 @@
--- The call of the page library is handed what the header says, and its answer is told.
+-- The calls of the page library are handed what the header says, and what they answer is told.
 use borrow.Author.Needs.{needs}
-use mathlib.Core.Path.{sym, ap}
+use mathlib.Core.Path.{sym, ap, _∙_}
 use mathlib.Core.Bool.{false}
-use Prim.Native.Nat.{_+_, _≤_, _<_}
+use Prim.Native.Nat.{_≤_}
 use native.Mathlib.Omega.{arith}
-use lib.ListN.{length, drop, length-drop}
+use lib.ListN.{length}
 use lib.Seq.{length-take-le}
-use Rattle.page.specs.Store.{store}
-use Rattle.page.specs.Carry.{Here, here}
+use Rattle.page.specs.Kept.{Kept, kept}
 use Rattle.report.specs.Header.{headerIn}
+use Rattle.report.specs.Calls.{toldFrom}
 use Rattle.report.proofs.Laws.Headers.{Accepted, accepted}
-use Rattle.report.proofs.Laws.Widths.{width-fits}
-use Rattle.report.proofs.Turns.Calls.{call-is, told-is, carry-ends, carry-goes}
+use Rattle.report.proofs.Turns.Tests.{tells-last}
+use Rattle.report.proofs.Turns.Calls.{ends-none, outcome-fits, ends-refused, goes-on}
 use Rattle.report.proofs.turn.carry_out.Statement.{statement}
 use Rattle.report.proofs.turn.carry_out.Tie as tie
 
 -- what is lent
-abbrev here-of : tie.Start → Here
-here-of s =
-    let a = s .args in
-    here (a .page .now) (a .writer)
-    (store (a .kinds .now) (a .allowed .now) (a .finished .now) (a .steps .now) (a .digits .now)) (a .buffers .now)
+abbrev kept-of : tie.Start → Kept
+kept-of s = let a = s .args in kept (a .page .now) (a .writer) (a .states .now) (a .buffers .now)
 
-abbrev start-of : tie.After-width → tie.Start
-start-of c = c .before .before .before .before .before
+abbrev start-of : tie.After-bases → tie.Start
+start-of c = c .before .before .before .before .before .before
 
 header-here : (s : tie.Start) → Accepted false (s .args .input .now) (headerIn (s .args .input .now))
 header-here s = accepted false _ _ (s .pre .1)
 
-some-left : (s : tie.Start) → 0 < length (drop (s .args .p .at) (s .args .input .now))
-some-left s = omega (arith, length-drop (s .args .p .at) (s .args .input .now), s .pre .2)
-
--- the command is inside the input
-inside : (c : tie.After-width) → start-of c .args .p .at + c .width .result ≤ length (start-of c .args .input .now)
-inside c =
-    let s = start-of c in
-    omega (
-      arith,
-      c .width .ensures,
-      width-fits (drop (s .args .p .at) (s .args .input .now)) (some-left s),
-      length-drop (s .args .p .at) (s .args .input .now),
-      s .pre .2,
-    )
-
-width-requires : tie.Need-width-requires
-width-requires c κs = search needs
-
-add-end : tie.Need-add-end
-add-end c = record { fits = omega (arith, inside c) }
+-- where the records lie
+records-in : (s : tie.Start) → let a = s .args in
+    (a .h .records ≤ a .h .commands) × (a .h .commands ≤ length (a .input .now))
+records-in s =
+    let t = s .pre .0 in
+    let h = header-here s in
+    let r = ap (λ h. h .records) t in
+    let c = ap (λ h. h .commands) t in
+    (omega (arith, r, c, h .records-begin), omega (arith, c, h .records-end))
 
 bases-requires : tie.Need-bases-requires
 bases-requires c κs =
-    let s = start-of c in
+    let s = c .before .before .before .before .before in
     let a = header-here s in
     let e = ap (λ h. h .m) (s .pre .0) in
     (omega (arith, e, a .few-places), omega (arith, e, a .form-ends))
 
-few : (c : tie.After-bases) → start-of (c .before) .args .h .m ≤ length (c .bases .result)
+few : (c : tie.After-bases) → start-of c .args .h .m ≤ length (c .bases .result)
 few c =
-    let s = start-of (c .before) in
+    let s = start-of c in
     omega (arith, ap (λ h. h .m) (s .pre .0), header-here s .few-places, c .bases .ensures .0)
 
+decode-requires : tie.Need-decode-requires
+decode-requires c κs = search needs
+
+enum-known-d : tie.Need-enum-known-d
+enum-known-d c = search needs
+
+-- WHAT IS NO COMMAND
+
 array-share-prefix-all : tie.Need-array-share-prefix-all
-array-share-prefix-all c = few c
+array-share-prefix-all c = few (c .before .before .before)
 
-slice-aggregate-run : tie.Need-slice-aggregate-run
-slice-aggregate-run c = sym (length-take-le _ _ (few (c .before)))
+slice-aggregate-run-packed : tie.Need-slice-aggregate-run-packed
+slice-aggregate-run-packed c = sym (length-take-le _ _ (few (c .before .before .before .before)))
 
--- where the arguments are made
-abbrev bases-at : tie.After-run-arg7 → tie.After-bases
-bases-at c = c .before .before .before .before .before .before .before .before
+sub-run-packed : tie.Need-sub-run-packed
+sub-run-packed c = records-in (start-of (c .before .before .before .before .before .before)) .0
 
-sub-run : tie.Need-sub-run
-sub-run c =
-    let s = start-of (bases-at c .before) in
-    let t = s .pre .0 in
-    omega (arith, ap (λ h. h .records) t, ap (λ h. h .commands) t, header-here s .records-begin)
+part-run-packed-start : tie.Need-part-run-packed-start
+part-run-packed-start c = records-in (start-of (c .before .before .before .before .before .before)) .0
 
-part-run-start : tie.Need-part-run-start
-part-run-start c =
-    let s = start-of (bases-at c .before) in
-    let t = s .pre .0 in
-    omega (arith, ap (λ h. h .records) t, ap (λ h. h .commands) t, header-here s .records-begin)
+part-run-packed-end : tie.Need-part-run-packed-end
+part-run-packed-end c = records-in (start-of (c .before .before .before .before .before .before)) .1
 
-part-run-end : tie.Need-part-run-end
-part-run-end c =
-    let s = start-of (bases-at c .before) in
-    omega (arith, ap (λ h. h .commands) (s .pre .0), header-here s .records-end)
+sub-run-packed-2 : tie.Need-sub-run-packed-2
+sub-run-packed-2 c = search needs
 
-sub-run-2 : tie.Need-sub-run-2
-sub-run-2 c = search needs
+part-run-packed-start-2 : tie.Need-part-run-packed-start-2
+part-run-packed-start-2 c = search needs
 
-part-run-start-2 : tie.Need-part-run-start-2
-part-run-start-2 c = search needs
+part-run-packed-end-2 : tie.Need-part-run-packed-end-2
+part-run-packed-end-2 c = search needs
 
-part-run-end-2 : tie.Need-part-run-end-2
-part-run-end-2 c = inside (bases-at (c .before) .before)
+slice-aggregate-run-packed-2 : tie.Need-slice-aggregate-run-packed-2
+slice-aggregate-run-packed-2 c = search needs
 
-slice-aggregate-run-2 : tie.Need-slice-aggregate-run-2
-slice-aggregate-run-2 c = search needs
-
-run-requires : tie.Need-run-requires
-run-requires c κs = search needs
-
-enum-known-e : tie.Need-enum-known-e
-enum-known-e c = search needs
+run-packed-requires : tie.Need-run-packed-requires
+run-packed-requires c κs = search needs
 
 ends-requires : tie.Need-ends-requires
 ends-requires c κs = search needs
@@ -115,111 +94,165 @@ same-length c = search needs
 same-length-2 : tie.Need-same-length-2
 same-length-2 c = search needs
 
--- where the call has been made
-abbrev made : tie.After-run → tie.After-bases
-made c = bases-at (c .before .before .before .before)
-
-abbrev ran-at : tie.After-w → tie.After-run
-ran-at c = c .before .before .before .before .before .before
+same-length-3 : tie.Need-same-length-3
+same-length-3 c = search needs
 
 returns : tie.Need-returns
 returns c =
-    let r = ran-at (c .before .before .before .before .before) in
-    let b = made r in
-    let s = start-of (b .before) in
-    let i = s .args .input .now in
-    let x = s .args in
-    carry-ends i (x .p) (here-of s) (x .h) (s .pre .0) _
-    (call-is i (x .p) (here-of s) (x .h) (s .pre .0) (b .bases .ensures .1) (b .before .width .ensures)
-    (r .run .ensures .0))
-    _ (c .before .before .before .e .given .1) (c .ends .ensures)
+    let r = c .before .before .before .before .before .before .before .before .before .before in
+    let k = r .before .before .before .before .before .before .before .before in
+    let d = k .before in
+    let b = d .before in
+    let s = start-of b in
+    let a = s .args in
+    tells-last (a .line .now) (a .p) _ _ (c .ends .ensures)
+    ∙ ap (toldFrom (a .line .now))
+    (ends-none (a .input .now) (a .p) (kept-of s) (a .h) (s .pre .0) (b .bases .ensures .1)
+    (r .run-packed .ensures) (d .decode .ensures) (k .match .keys2))
 
-enum-told : tie.Need-enum-told
-enum-told c = search needs
+-- A COMMAND
 
-array-share-prefix-log : tie.Need-array-share-prefix-log
-array-share-prefix-log c =
-    let e = c .before .before in
-    let r = ran-at (e .before .before) in
-    let b = made r in
-    let s = start-of (b .before) in
-    let i = s .args .input .now in
-    let x = s .args in
-    told-is i (x .p) (here-of s) (x .h) (s .pre .0) (x .line .now)
-    (call-is i (x .p) (here-of s) (x .h) (s .pre .0) (b .bases .ensures .1) (b .before .width .ensures)
-    (r .run .ensures .0))
-    (some-left s) (e .enum-told .given .1) .1
+array-share-prefix-all-2 : tie.Need-array-share-prefix-all-2
+array-share-prefix-all-2 c = few (c .before .before .before .before .before)
 
-slice-aggregate-put : tie.Need-slice-aggregate-put
-slice-aggregate-put c = sym (length-take-le _ _ (array-share-prefix-log (c .before)))
+slice-aggregate-step-packed : tie.Need-slice-aggregate-step-packed
+slice-aggregate-step-packed c = sym (length-take-le _ _ (few (c .before .before .before .before .before .before)))
+
+sub-step-packed : tie.Need-sub-step-packed
+sub-step-packed c =
+    records-in (start-of (c .before .before .before .before .before .before .before .before)) .0
+
+part-step-packed-start : tie.Need-part-step-packed-start
+part-step-packed-start c =
+    records-in (start-of (c .before .before .before .before .before .before .before .before)) .0
+
+part-step-packed-end : tie.Need-part-step-packed-end
+part-step-packed-end c =
+    records-in (start-of (c .before .before .before .before .before .before .before .before)) .1
+
+step-packed-requires : tie.Need-step-packed-requires
+step-packed-requires c κs = search needs
+
+enum-known-a : tie.Need-enum-known-a
+enum-known-a c = search needs
+
+ends-requires-2 : tie.Need-ends-requires-2
+ends-requires-2 c κs = search needs
+
+enum-known-a-2 : tie.Need-enum-known-a-2
+enum-known-a-2 c = search needs
+
+-- where the command is known
+abbrev known : tie.After-step-packed → tie.After-d
+known r = r .before .before .before .before .before .before .before
+
+abbrev bases-at : tie.After-step-packed → tie.After-bases
+bases-at r = known r .before .before .before
+
+-- where the step has been made
+abbrev made : tie.After-w2 → tie.After-step-packed
+made c = c .before .before .before .before .before .before .before
 
 put-requires : tie.Need-put-requires
 put-requires c κs =
-    let e = c .before .before .before in
-    let r = ran-at (e .before .before) in
-    let b = made r in
-    let s = start-of (b .before) in
-    let i = s .args .input .now in
-    let x = s .args in (
-      omega (arith, c .before .before .put-arg .given),
-      told-is i (x .p) (here-of s) (x .h) (s .pre .0) (x .line .now)
-          (call-is i (x .p) (here-of s) (x .h) (s .pre .0) (b .bases .ensures .1) (b .before .width .ensures)
-          (r .run .ensures .0))
-          (some-left s) (e .enum-told .given .1) .0,
+    let a2 = c .before .before .before in
+    let r = made (a2 .before .before) in
+    let d = known r in
+    let b = bases-at r in
+    let s = start-of b in
+    let a = s .args in (
+      omega (arith, c .before .put-arg .given),
+      outcome-fits (a .input .now) (a .p) (kept-of s) (a .h) (s .pre .0) (b .bases .ensures .1)
+          (d .before .before .decode .ensures) (d .d .given .1) (r .step-packed .ensures) _ (a2 .a2 .given .1),
     )
 
-add-t41 : tie.Need-add-t41
-add-t41 c =
-    let w = made (ran-at (c .before .before .before .before .before .before .before)) .before in
-    let s = start-of w in
-    record { fits = omega (arith, s .pre .2, s .pre .3, inside w) }
-
-same-length-3 : tie.Need-same-length-3
-same-length-3 c = search needs
+add-t67 : tie.Need-add-t67
+add-t67 c =
+    let a2 = c .before .before .before .before .before in
+    let s = start-of (bases-at (made (a2 .before .before))) in
+    record { fits = omega (arith, s .pre .2, s .pre .3) }
 
 same-length-4 : tie.Need-same-length-4
 same-length-4 c = search needs
 
+same-length-5 : tie.Need-same-length-5
+same-length-5 c = search needs
+
+same-length-6 : tie.Need-same-length-6
+same-length-6 c = search needs
+
 returns-2 : tie.Need-returns-2
 returns-2 c =
-    let e = c .before .before .before .before .before in
-    let r = ran-at (e .before .before) in
-    let b = made r in
-    let s = start-of (b .before) in
-    let i = s .args .input .now in
-    let x = s .args in
-    carry-goes i (x .p) (here-of s) (x .h) (s .pre .0) (x .line .now)
-    (call-is i (x .p) (here-of s) (x .h) (s .pre .0) (b .bases .ensures .1) (b .before .width .ensures)
-    (r .run .ensures .0))
-    (e .enum-told .given .1) (b .before .width .ensures) (c .before .put .ensures)
+    let n = c .before .before .before in
+    let r = made (n .before .before) in
+    let d = known r in
+    let b = bases-at r in
+    let s = start-of b in
+    let a = s .args in
+    tells-last (a .line .now) (a .p) _ _ (c .ends2 .ensures)
+    ∙ ap (toldFrom (a .line .now))
+    (ends-refused (a .input .now) (a .p) (kept-of s) (a .h) (s .pre .0) (b .bases .ensures .1)
+    (d .before .before .decode .ensures) (d .d .given .1) (r .step-packed .ensures) _ (n .a .given .1))
+
+same-length-7 : tie.Need-same-length-7
+same-length-7 c = search needs
+
+same-length-8 : tie.Need-same-length-8
+same-length-8 c = search needs
+
+same-length-9 : tie.Need-same-length-9
+same-length-9 c = search needs
+
+returns-3 : tie.Need-returns-3
+returns-3 c =
+    let n = c .before .before .before .before .before in
+    let r = made (n .before .before) in
+    let d = known r in
+    let b = bases-at r in
+    let s = start-of b in
+    let a = s .args in
+    goes-on (a .input .now) (a .p) (kept-of s) (a .h) (s .pre .0) (b .bases .ensures .1)
+    (d .before .before .decode .ensures) (d .d .given .1) (r .step-packed .ensures) (a .line .now) _ (n .a2 .given .1)
+    (c .before .put .ensures)
 
 pub carry-out-spec : {M : Type 1} → statement M
 carry-out-spec =
     tie.close
     (tie.spec
-    width-requires
-    add-end
     bases-requires
+    decode-requires
+    enum-known-d
     array-share-prefix-all
-    slice-aggregate-run
-    sub-run
-    part-run-start
-    part-run-end
-    sub-run-2
-    part-run-start-2
-    part-run-end-2
-    slice-aggregate-run-2
-    run-requires
-    enum-known-e
+    slice-aggregate-run-packed
+    sub-run-packed
+    part-run-packed-start
+    part-run-packed-end
+    sub-run-packed-2
+    part-run-packed-start-2
+    part-run-packed-end-2
+    slice-aggregate-run-packed-2
+    run-packed-requires
     ends-requires
     same-length
     same-length-2
-    returns
-    enum-told
-    array-share-prefix-log
-    slice-aggregate-put
-    put-requires
-    add-t41
     same-length-3
+    returns
+    array-share-prefix-all-2
+    slice-aggregate-step-packed
+    sub-step-packed
+    part-step-packed-start
+    part-step-packed-end
+    step-packed-requires
+    enum-known-a
+    ends-requires-2
+    enum-known-a-2
+    put-requires
+    add-t67
     same-length-4
-    returns-2)
+    same-length-5
+    same-length-6
+    returns-2
+    same-length-7
+    same-length-8
+    same-length-9
+    returns-3)

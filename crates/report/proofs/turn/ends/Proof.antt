@@ -2,7 +2,7 @@
 use borrow.Author.Needs.{needs}
 use mathlib.Core.Path.{ap}
 use mathlib.Core.Bool.{true}
-use Rattle.page.specs.Entry.{Added}
+use Rattle.codec.specs.Entry.{Added}
 use Rattle.report.proofs.turn.ends.Statement.{statement}
 use Rattle.report.proofs.turn.ends.Tie as tie
 

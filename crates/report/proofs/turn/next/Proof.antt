@@ -8,26 +8,22 @@ use native.Mathlib.Omega.{arith}
 use lib.ListN.{length}
 use Rattle.protocol.specs.declared.Refusal.the-variants.{InvalidState}
 use Rattle.protocol.specs.declared.Ending.the-variants.{Finished, Refused}
-use Rattle.page.specs.Store.{store}
-use Rattle.page.specs.Carry.{Here, here}
+use Rattle.page.specs.Kept.{Kept, kept}
 use Rattle.report.specs.Header.{Parsed, headerIn, parse}
 use Rattle.report.specs.Turn.{turnOf}
 use Rattle.report.specs.Calls.{toldFrom}
 use Rattle.report.proofs.Laws.Taken.{Taken, taken, refused-is}
-use Rattle.report.proofs.Turns.Tests.{header-refused, beyond, too-many, at-end, inside, tells-end}
+use Rattle.report.proofs.Turns.Tests.{header-refused, beyond, too-many, at-end, inside, tells-last}
 use Rattle.report.proofs.Turns.Forward.{told-bounds}
 use Rattle.report.proofs.turn.next.Statement.{statement}
 use Rattle.report.proofs.turn.next.Tie as tie
 
 -- what is lent
-abbrev here-of : tie.Start → Here
-here-of s =
-    let a = s .args in
-    here (a .page .now) (a .writer)
-    (store (a .kinds .now) (a .allowed .now) (a .finished .now) (a .steps .now) (a .digits .now)) (a .buffers .now)
+abbrev kept-of : tie.Start → Kept
+kept-of s = let a = s .args in kept (a .page .now) (a .writer) (a .states .now) (a .buffers .now)
 
 abbrev start-of : tie.After-parse → tie.Start
-start-of c = c .before .before .before .before
+start-of c = c .before .before .before .before .before
 
 abbrev parsed : tie.Start → Parsed
 parsed s = parse (s .args .more) (s .args .input .now)
@@ -60,15 +56,15 @@ returns c =
     let s = start-of (x .before .before) in
     let i = s .args .input .now in
     let p = s .args .p in
-    let h = here-of s in
+    let K = kept-of s in
     let q =
-    ap (turnOf i p h) (taken-here x .is-header)
-    ∙ ⊎-elim (λ w. beyond i p h (headerIn i) (w .taken))
-    (λ w. too-many i p h (headerIn i) (w .0 .left) (ltb-true _ _ (w .2 .taken)))
+    ap (turnOf i p K) (taken-here x .is-header)
+    ∙ ⊎-elim (λ w. beyond i p K (headerIn i) (w .taken))
+    (λ w. too-many i p K (headerIn i) (w .0 .left) (ltb-true _ _ (w .2 .taken)))
     (j .if1 .came)
     in
-    let e = tells-end i p h (s .args .line .now) (Refused InvalidState) (parsed s) q (c .ends2 .ensures) in
-    (e, told-bounds i p h (s .args .line .now) (parsed s) e)
+    let e = tells-last (s .args .line .now) p K (Refused InvalidState) (c .ends2 .ensures) ∙ ap (toldFrom (s .args .line .now)) (sym q) in
+    (e, told-bounds i p K (s .args .line .now) (parsed s) e)
 
 ends-requires-3 : tie.Need-ends-requires-3
 ends-requires-3 c κs = search needs
@@ -89,18 +85,18 @@ returns-2 c =
     let s = start-of (x .before .before) in
     let i = s .args .input .now in
     let p = s .args .p in
-    let h = here-of s in
-    let q = ap (turnOf i p h) (taken-here x .is-header) ∙ at-end i p h (headerIn i) (t .if3 .taken) (few k) in
-    let e = tells-end i p h (s .args .line .now) Finished (parsed s) q (c .ends3 .ensures) in
-    (e, told-bounds i p h (s .args .line .now) (parsed s) e)
+    let K = kept-of s in
+    let q = ap (turnOf i p K) (taken-here x .is-header) ∙ at-end i p K (headerIn i) (t .if3 .taken) (few k) in
+    let e = tells-last (s .args .line .now) p K Finished (c .ends3 .ensures) ∙ ap (toldFrom (s .args .line .now)) (sym q) in
+    (e, told-bounds i p K (s .args .line .now) (parsed s) e)
 
 -- a command
 low : (c : tie.Else3) → let a = start-of (known (c .before .before) .before .before) .args in
     a .p .at < length (a .input .now)
 low c = omega (arith, c .before .before .before .before .if1 .left, c .if3 .left)
 
-abbrev else-at : tie.After-carry-out-arg8 → tie.Else3
-else-at c = c .before .before .before .before .before .before .before .before
+abbrev else-at : tie.After-carry-out-arg4 → tie.Else3
+else-at c = c .before .before .before .before
 
 carry-out-requires : tie.Need-carry-out-requires
 carry-out-requires c κs =
@@ -116,11 +112,11 @@ returns-3 c =
     let s = start-of r in
     let i = s .args .input .now in
     let p = s .args .p in
-    let h = here-of s in
+    let K = kept-of s in
     let q =
-    ap (turnOf i p h) (refused-is i _ _ (sym (r .parse .ensures) ∙ x .x .given .1)) ∙ header-refused i p h _ in
-    let e = tells-end i p h (s .args .line .now) _ (parsed s) q (c .ends .ensures) in
-    (e, told-bounds i p h (s .args .line .now) (parsed s) e)
+    ap (turnOf i p K) (refused-is i _ _ (sym (r .parse .ensures) ∙ x .x .given .1)) ∙ header-refused i p K _ in
+    let e = tells-last (s .args .line .now) p K _ (c .ends .ensures) ∙ ap (toldFrom (s .args .line .now)) (sym q) in
+    (e, told-bounds i p K (s .args .line .now) (parsed s) e)
 
 same-length : tie.Need-same-length
 same-length c = search needs
@@ -128,19 +124,22 @@ same-length c = search needs
 same-length-2 : tie.Need-same-length-2
 same-length-2 c = search needs
 
+same-length-3 : tie.Need-same-length-3
+same-length-3 c = search needs
+
 returns-4 : tie.Need-returns-4
 returns-4 c =
-    let o = c .before .before .before .before in
+    let o = c .before .before .before .before .before .before in
     let k = else-at (o .before) in
     let x = known (k .before .before) in
     let s = start-of (x .before .before) in
     let i = s .args .input .now in
     let p = s .args .p in
-    let h = here-of s in
+    let K = kept-of s in
     let q =
-    ap (turnOf i p h) (taken-here x .is-header) ∙ inside i p h (headerIn i) (low k) (few (k .before .before)) in
+    ap (turnOf i p K) (taken-here x .is-header) ∙ inside i p K (headerIn i) (low k) (few (k .before .before)) in
     let e = o .carry-out .ensures ∙ ap (toldFrom (s .args .line .now)) (sym q) in
-    (e, told-bounds i p h (s .args .line .now) (parsed s) e)
+    (e, told-bounds i p K (s .args .line .now) (parsed s) e)
 
 pub next-spec : {M : Type 1} → statement M
 next-spec =
@@ -158,4 +157,5 @@ next-spec =
     returns-3
     same-length
     same-length-2
+    same-length-3
     returns-4)

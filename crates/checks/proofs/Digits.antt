@@ -1,0 +1,9 @@
+pub mod Ranges
+pub mod Sums
+pub mod Eights
+pub mod Halves
+pub mod Valid
+pub mod Masks
+pub mod Low
+pub mod Eight
+pub mod Gathered

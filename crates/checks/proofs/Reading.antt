@@ -1,0 +1,237 @@
+-- The code's tests of one reader, by its kind, are the protocol's. They ask small numbers only.
+use mathlib.Core.Path.{_≡_, refl, sym, subst, _∙_}
+use mathlib.Core.List.{List, _++_, reverse}
+use mathlib.Core.Bool.{Bool, true, false, _&&_, cond}
+use Prim.Native.Nat.{ℕ, _+_, _-_, _≤_, _<_, min}
+use native.Mathlib.Omega.{arith}
+use lib.Dec.{eqb, ltb}
+use lib.ListN.{length, drop, length-replicate, getD-replicate}
+use borrow.Author.Tests.{eqb-true, eq-eqb, ltb-true, lt-ltb}
+use Rattle.radix.specs.Digits.{valid}
+use Rattle.protocol.specs.Lists.{every}
+use Rattle.protocol.specs.Load.{same}
+use Rattle.protocol.specs.Form.{Form, m, versionBases, countSteps, recordSteps}
+use Rattle.protocol.specs.State.{Reading}
+use Rattle.protocol.specs.Allowed.{allowedReading, versionDigits}
+use Rattle.protocol.specs.Memory.{storedDigits, storedReading}
+use Rattle.protocol.specs.Load.{loadDigits, loadReading, sameReader}
+use Rattle.protocol.specs.declared.Reader.{Reader}
+use Rattle.protocol.proofs.Lists.Cases.{both, together, eqb-refl}
+use Rattle.checks.specs.Valid.{validReader}
+use Rattle.checks.specs.Digits.{gatheredOk}
+use Rattle.checks.proofs.Tests.{same-test, eqb-sym}
+use Rattle.checks.proofs.Small.{Bounds}
+use Rattle.checks.proofs.Digits.Masks.{loaded-size}
+use Rattle.checks.proofs.Digits.Gathered.{gathered-length, gathered-count, gathered-version, gathered-none}
+
+unfoldable pub readerOk : Form → Reader → Bool
+readerOk F x =
+    let kind = x .stage .kind in
+    let steps = x .stage .steps in
+    let idle = eqb (x .stage .allowed) 0 && eqb (x .stage .finished) 0 in
+    cond (eqb kind 0) (idle && eqb steps 0 && gatheredOk (F .bases) (x .digits) 0)
+    (cond (eqb kind 1) (idle && ltb steps (countSteps F) && gatheredOk (F .bases) (x .digits) steps)
+    (eqb kind 2
+    && ltb (x .stage .finished) (x .stage .allowed)
+    && ltb steps (recordSteps F)
+    && gatheredOk (versionBases F) (x .digits) (versionDigits F steps)))
+
+module _ (F : Form) (bounds : Bounds F) (x : Reader) (long : length (x .digits) ≡ 16) where
+  abbrev kind : ℕ
+  kind = x .stage .kind
+
+  abbrev most : ℕ
+  most = x .stage .allowed
+
+  abbrev used : ℕ
+  used = x .stage .finished
+
+  abbrev steps : ℕ
+  steps = x .stage .steps
+
+  abbrev l : List ℕ
+  l = x .digits
+
+  abbrev tested : Reading → Bool
+  tested r = allowedReading F r && sameReader (storedReading F r) x
+
+  abbrev Same : Type 0
+  Same = readerOk F x ≡ tested (loadReading F x)
+
+  -- KIND 0
+  when-idle : kind ≡ 0 → Same
+  unfolding readerOk loadReading allowedReading storedReading
+  when-idle e =
+      rw (
+        e,
+        eqb-sym most 0,
+        eqb-sym used 0,
+        eqb-sym steps 0,
+        gathered-none (F .bases) l (bounds .places) long,
+      )
+
+  -- KIND 1
+  abbrev counted : List ℕ
+  counted = loadDigits (m F) (min steps (m F)) (steps - m F) l
+
+  count-code :
+      kind ≡ 1 →
+      readerOk F x
+      ≡ eqb most 0 && eqb used 0 && ltb steps (countSteps F) && gatheredOk (F .bases) l steps
+  unfolding readerOk
+  count-code e = rw e
+
+  abbrev countTests : Bool
+  countTests =
+      (ltb (length counted) (countSteps F)
+      && valid (drop (countSteps F - length counted) (F .bases ++ reverse (F .bases))) counted)
+      && (eqb 0 most
+      && eqb 0 used
+      && eqb (length counted) steps
+      && same (storedDigits (m F) (length counted - m F) counted) l)
+
+  count-meant : kind ≡ 1 → tested (loadReading F x) ≡ countTests
+  unfolding loadReading allowedReading storedReading
+  count-meant e = rw e
+
+  count-to :
+      eqb most 0 && eqb used 0 && ltb steps (countSteps F) && gatheredOk (F .bases) l steps ≡ true →
+      countTests ≡ true
+  count-to h =
+      let (a, g) = both _ (gatheredOk (F .bases) l steps) h in
+      let (b, s) = both _ (ltb steps (countSteps F)) a in
+      let (p, q) = both (eqb most 0) (eqb used 0) b in
+      let few : steps < countSteps F = ltb-true steps (countSteps F) s in
+      let size : length counted ≡ steps =
+      gathered-length (F .bases) l steps (bounds .places) (omega arith) long
+      in
+      let (v, z) =
+      both (valid (drop (countSteps F - length counted) (F .bases ++ reverse (F .bases))) counted) _
+      (sym (gathered-count (F .bases) l steps (bounds .places) (omega arith) long) ∙ g)
+      in
+      together (together (lt-ltb (length counted) (countSteps F) (omega arith)) v)
+      (together
+      (together (together (eqb-sym 0 most ∙ p) (eqb-sym 0 used ∙ q)) (eq-eqb (length counted) steps size))
+      z)
+
+  count-from :
+      countTests ≡ true →
+      eqb most 0 && eqb used 0 && ltb steps (countSteps F) && gatheredOk (F .bases) l steps ≡ true
+  count-from h =
+      let order = drop (countSteps F - length counted) (F .bases ++ reverse (F .bases)) in
+      let (a, b) = both (ltb (length counted) (countSteps F) && valid order counted) _ h in
+      let (x, v) = both (ltb (length counted) (countSteps F)) (valid order counted) a in
+      let (c, z) = both _ (same (storedDigits (m F) (length counted - m F) counted) l) b in
+      let (d, s) = both _ (eqb (length counted) steps) c in
+      let (p, q) = both (eqb 0 most) (eqb 0 used) d in
+      let size : length counted ≡ steps = eqb-true (length counted) steps s in
+      let low : length counted < countSteps F = ltb-true (length counted) (countSteps F) x in
+      together
+      (together (together (eqb-sym most 0 ∙ p) (eqb-sym used 0 ∙ q)) (lt-ltb steps (countSteps F) (omega arith)))
+      (gathered-count (F .bases) l steps (bounds .places) (omega arith) long ∙ together v z)
+
+  when-count : kind ≡ 1 → Same
+  when-count e =
+      count-code e
+      ∙ same-test (eqb most 0 && eqb used 0 && ltb steps (countSteps F) && gatheredOk (F .bases) l steps)
+      countTests count-to count-from
+      ∙ sym (count-meant e)
+
+  -- KIND 2
+  abbrev version : List ℕ
+  version = loadDigits (F .q) (min (versionDigits F steps) (F .q)) (versionDigits F steps - F .q) l
+
+  record-code :
+      kind ≡ 2 →
+      readerOk F x
+      ≡ ltb used most
+      && ltb steps (recordSteps F)
+      && gatheredOk (versionBases F) l (versionDigits F steps)
+  unfolding readerOk
+  record-code e = rw e
+
+  record-meant :
+      kind ≡ 2 →
+      tested (loadReading F x)
+      ≡ (ltb used most
+      && ltb steps (recordSteps F)
+      && eqb (length version) (versionDigits F steps)
+      && every (λ d. ltb d (F .base)) version)
+      && same (storedDigits (F .q) (length version - F .q) version) l
+  unfolding loadReading allowedReading storedReading
+  record-meant e = rw (e, eqb-refl most, eqb-refl used, eqb-refl steps)
+
+  version-gathered :
+      versionDigits F steps ≤ F .q + F .q →
+      gatheredOk (versionBases F) l (versionDigits F steps)
+      ≡ every (λ d. ltb d (F .base)) version && same (storedDigits (F .q) (length version - F .q) version) l
+  version-gathered few =
+      let g : ℕ = versionDigits F steps in
+      let e : length (versionBases F) ≡ F .q = length-replicate (F .q) (F .base) in
+      subst (λ (w : ℕ).
+      gatheredOk (versionBases F) l g
+      ≡ every (λ d. ltb d (F .base)) (loadDigits w (min g w) (g - w) l)
+      && same
+      (storedDigits w (length (loadDigits w (min g w) (g - w) l) - w) (loadDigits w (min g w) (g - w) l)) l) e
+      (gathered-version (versionBases F) l g (omega (arith, bounds .versions)) (omega arith) long (F .base)
+      (λ p h. getD-replicate (F .q) p (F .base) 0 (omega arith)))
+
+  version-size : versionDigits F steps ≤ F .q + F .q → length version ≡ versionDigits F steps
+  version-size few =
+      loaded-size (F .q) (versionDigits F steps) l (omega (arith, bounds .versions)) few
+      long
+
+  abbrev recordTests : Bool
+  recordTests =
+      (ltb used most
+      && ltb steps (recordSteps F)
+      && eqb (length version) (versionDigits F steps)
+      && every (λ d. ltb d (F .base)) version)
+      && same (storedDigits (F .q) (length version - F .q) version) l
+
+  abbrev recordCode : Bool
+  recordCode =
+      ltb used most
+      && ltb steps (recordSteps F)
+      && gatheredOk (versionBases F) l (versionDigits F steps)
+
+  record-to : recordCode ≡ true → recordTests ≡ true
+  record-to h =
+      let (a, g) = both _ (gatheredOk (versionBases F) l (versionDigits F steps)) h in
+      let (p, s) = both (ltb used most) (ltb steps (recordSteps F)) a in
+      let low : steps < recordSteps F = ltb-true steps (recordSteps F) s in
+      let few : versionDigits F steps ≤ F .q + F .q = omega arith in
+      let (v, z) = both (every (λ d. ltb d (F .base)) version) _ (sym (version-gathered few) ∙ g) in
+      together
+      (together (together (together p s) (eq-eqb (length version) (versionDigits F steps) (version-size few))) v) z
+
+  record-from : recordTests ≡ true → recordCode ≡ true
+  record-from h =
+      let (a, z) = both _ (same (storedDigits (F .q) (length version - F .q) version) l) h in
+      let (b, v) = both _ (every (λ d. ltb d (F .base)) version) a in
+      let (c, e) = both _ (eqb (length version) (versionDigits F steps)) b in
+      let (p, s) = both (ltb used most) (ltb steps (recordSteps F)) c in
+      let low : steps < recordSteps F = ltb-true steps (recordSteps F) s in
+      let few : versionDigits F steps ≤ F .q + F .q = omega arith in
+      together (together p s) (version-gathered few ∙ together v z)
+
+  when-record : kind ≡ 2 → Same
+  when-record e = record-code e ∙ same-test recordCode recordTests record-to record-from ∙ sym (record-meant e)
+
+  -- any other
+  when-other : eqb kind 0 ≡ false → eqb kind 1 ≡ false → eqb kind 2 ≡ false → Same
+  unfolding readerOk loadReading allowedReading storedReading
+  when-other p q r = rw (p, q, r, eqb-sym 0 kind, p)
+
+  by-kind : Same
+  by-kind = go (eqb kind 0) (eqb kind 1) (eqb kind 2) refl refl refl
+    where
+      go : (a b c : Bool) → eqb kind 0 ≡ a → eqb kind 1 ≡ b → eqb kind 2 ≡ c → Same
+      go true b c p q r = when-idle (eqb-true kind 0 p)
+      go false true c p q r = when-count (eqb-true kind 1 q)
+      go false false true p q r = when-record (eqb-true kind 2 r)
+      go false false false p q r = when-other p q r
+
+  pub reader-ok : readerOk F x ≡ validReader F x
+  unfolding validReader
+  reader-ok = by-kind

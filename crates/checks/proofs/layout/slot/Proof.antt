@@ -1,0 +1,47 @@
+-- The tests are those of the definition; past the last step the difference is 0.
+use borrow.Author.Needs.{needs}
+use borrow.Author.Tests.{le-leb, lt-leb, lt-ltb, le-ltb}
+use native.Mathlib.Omega.{arith}
+use Rattle.checks.proofs.layout.slot.Statement.{statement}
+use Rattle.checks.proofs.layout.slot.Tie as tie
+
+returns : tie.Need-returns
+returns c = rw (lt-leb _ _ (c .if1 .taken))
+
+returns-2 : tie.Need-returns-2
+returns-2 c = rw (le-leb _ _ (c .before .if1 .left), lt-ltb _ _ (c .if2 .taken))
+
+add-if3 : tie.Need-add-if3
+add-if3 c = search needs
+
+returns-3 : tie.Need-returns-3
+returns-3 c = rw (le-leb _ _ (c .before .before .if1 .left), le-ltb _ _ (c .before .if2 .left)) (omega arith)
+
+add-result : tie.Need-add-result
+add-result c = search needs
+
+sub-result : tie.Need-sub-result
+sub-result c = search needs
+
+sub-result-2 : tie.Need-sub-result-2
+sub-result-2 c = search needs
+
+add-result-2 : tie.Need-add-result-2
+add-result-2 c = search needs
+
+returns-4 : tie.Need-returns-4
+returns-4 c = rw (le-leb _ _ (c .before .before .if1 .left), le-ltb _ _ (c .before .if2 .left))
+
+pub slot-spec : {M : Type 1} → statement M
+slot-spec =
+    tie.close
+    (tie.spec
+    returns
+    returns-2
+    add-if3
+    returns-3
+    add-result
+    sub-result
+    sub-result-2
+    add-result-2
+    returns-4)

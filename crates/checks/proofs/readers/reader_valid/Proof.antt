@@ -1,0 +1,56 @@
+-- The digits copied out are the reader's own.
+use borrow.Author.Needs.{needs}
+use borrow.Author.Tests.{not-true}
+use mathlib.Core.Path.{_≡_, sym, _∙_}
+use mathlib.Core.Bool.{true}
+use Rattle.protocol.specs.Form.{formOf}
+use Rattle.checks.specs.Layout.{small}
+use Rattle.checks.proofs.Small.{was-small}
+use Rattle.checks.proofs.readers.reader_valid.Statement.{statement}
+use Rattle.checks.proofs.readers.reader_valid.Tie as tie
+
+small-requires : tie.Need-small-requires
+small-requires c κs = search needs
+
+returns : tie.Need-returns
+returns c = rw (sym (c .before .small .ensures) ∙ not-true _ (c .if1 .taken))
+
+small-here : (c : tie.Else1) →
+    let a = c .before .before .before .args in
+    small (formOf (a .bases .now) (a .format)) ≡ true
+small-here c = was-small _ _ (c .before .small .ensures) (c .if1 .left)
+
+slice-aggregate-attempt-valid : tie.Need-slice-aggregate-attempt-valid
+slice-aggregate-attempt-valid c = search needs
+
+attempt-valid-requires : tie.Need-attempt-valid-requires
+attempt-valid-requires c κs =
+    let t = c .before in
+    (small-here (t .before .before .before .before), sym (slice-aggregate-attempt-valid c), t .if2 .taken)
+
+returns-2 : tie.Need-returns-2
+returns-2 c = rw (small-here (c .before .before .before .before .before .before)) (c .attempt-valid .ensures)
+
+slice-aggregate-count-valid : tie.Need-slice-aggregate-count-valid
+slice-aggregate-count-valid c = search needs
+
+count-valid-requires : tie.Need-count-valid-requires
+count-valid-requires c κs =
+    let t = c .before in
+    (small-here (t .before .before .before .before), sym (slice-aggregate-count-valid c), t .if2 .left)
+
+returns-3 : tie.Need-returns-3
+returns-3 c = rw (small-here (c .before .before .before .before .before .before)) (c .count-valid .ensures)
+
+pub reader-valid-spec : {M : Type 1} → statement M
+reader-valid-spec =
+    tie.close
+    (tie.spec
+    small-requires
+    returns
+    slice-aggregate-attempt-valid
+    attempt-valid-requires
+    returns-2
+    slice-aggregate-count-valid
+    count-valid-requires
+    returns-3)

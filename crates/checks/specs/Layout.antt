@@ -1,0 +1,25 @@
+-- Where the digits of a page lie, as the code computes it.
+use mathlib.Core.Bool.{Bool, _&&_, cond}
+use Prim.Native.Nat.{ℕ, _+_, _-_}
+use lib.Dec.{leb, ltb}
+use Rattle.protocol.specs.Form.{Form, m}
+
+-- the numbers of the format are so small that sums of them fit; those of a good format are
+unfoldable pub small : Form → Bool
+small F = leb (m F) 8 && leb (F .q) 4 && leb (F .n) 256
+
+-- an answer about such a format; 0 of any other
+abbrev pub ofSmall : Form → ℕ → ℕ
+ofSmall F x = cond (small F) x 0
+
+-- step k of a record write, or of an attempt, moves a byte of the record
+abbrev pub inContent : Form → ℕ → Bool
+inContent F k = leb (F .q) k && ltb k (F .q + F .n)
+
+-- of w digits that are visited there and back, the one of step k
+abbrev pub thereAndBack : (w k : ℕ) → ℕ
+thereAndBack w k = cond (ltb k w) k (w + w - 1 - k)
+
+-- where a reader keeps the digit of step k: the first eight places are of those there, the others of those back
+abbrev pub slotOf : (w k : ℕ) → ℕ
+slotOf w k = cond (ltb k w) k (8 + (w + w - 1 - k))

@@ -1,0 +1,16 @@
+-- Refusal 3 in its parts. Together they are the protocol's `validMemory`.
+use mathlib.Core.List.{List}
+use mathlib.Core.Bool.{Bool, _&&_}
+use Prim.Native.Nat.{ℕ}
+use Rattle.protocol.specs.Form.{Form}
+use Rattle.protocol.specs.Allowed.{allowedWriting, allowedReading}
+use Rattle.protocol.specs.Memory.{storedWriting, storedReading}
+use Rattle.protocol.specs.Load.{loadWriting, loadReading, sameWriter, sameReader}
+use Rattle.protocol.specs.declared.Writer.{Writer}
+use Rattle.protocol.specs.declared.Reader.{Reader}
+
+unfoldable pub validWriter : Form → List ℕ → Writer → Bool
+validWriter F S w = allowedWriting F S (loadWriting w) && sameWriter (storedWriting (loadWriting w)) w
+
+unfoldable pub validReader : Form → Reader → Bool
+validReader F x = allowedReading F (loadReading F x) && sameReader (storedReading F (loadReading F x)) x

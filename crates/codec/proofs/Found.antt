@@ -1,0 +1,31 @@
+-- The outcome whose entry a log begins with, by the entry's kind.
+use mathlib.Core.Path.{_≡_}
+use mathlib.Core.List.{List}
+use Prim.Native.Nat.{ℕ}
+use lib.ListN.{getD}
+use borrow.Author.Tests.{ne-eqb}
+use Rattle.radix.specs.Digits.{ofBytes}
+use Rattle.protocol.specs.declared.Outcome.the-variants.{Nothing, Shown, Accepted, GaveUp}
+use Rattle.codec.specs.Entry.{outcomeIn}
+use Rattle.codec.proofs.Bytes.{part}
+
+module _ (l : List ℕ) where
+  pub found-shown :
+      getD l 0 0 ≡ 1 → {n : ℕ} → n ≡ ofBytes (part l 2 8) → Shown (getD l 1 0) (record { 0 = n }) ≡ outcomeIn l
+  unfolding outcomeIn
+  found-shown e f = rw (f, e)
+
+  pub found-accepted :
+      getD l 0 0 ≡ 2 → {n : ℕ} → n ≡ ofBytes (part l 3 4) →
+      Accepted (getD l 1 0) (getD l 2 0) (record { 0 = n }) ≡ outcomeIn l
+  unfolding outcomeIn
+  found-accepted e f = rw (f, e)
+
+  pub found-gave : getD l 0 0 ≡ 3 → GaveUp (getD l 1 0) (getD l 2 0) ≡ outcomeIn l
+  unfolding outcomeIn
+  found-gave e = rw e
+
+  pub found-nothing :
+      (getD l 0 0 ≡ 1 → ⊥) → (getD l 0 0 ≡ 2 → ⊥) → (getD l 0 0 ≡ 3 → ⊥) → Nothing ≡ outcomeIn l
+  unfolding outcomeIn
+  found-nothing n1 n2 n3 = rw (ne-eqb _ 1 n1, ne-eqb _ 2 n2, ne-eqb _ 3 n3)

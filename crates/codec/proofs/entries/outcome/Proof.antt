@@ -1,0 +1,72 @@
+-- Each return is one kind of entry.
+use borrow.Author.Needs.{needs}
+use Rattle.codec.proofs.Found.{found-shown, found-accepted, found-gave, found-nothing}
+use Rattle.codec.proofs.entries.outcome.Statement.{statement}
+use Rattle.codec.proofs.entries.outcome.Tie as tie
+
+array-read-kind : tie.Need-array-read-kind
+array-read-kind c = search needs
+
+array-read-t10 : tie.Need-array-read-t10
+array-read-t10 c = search needs
+
+slice-aggregate-number-at : tie.Need-slice-aggregate-number-at
+slice-aggregate-number-at c = search needs
+
+number-at-requires : tie.Need-number-at-requires
+number-at-requires c κs = search needs
+
+returns : tie.Need-returns
+returns c =
+    let t = c .before .before in
+    found-shown (t .before .args .t1) (t .if1 .taken) (c .number-at .ensures)
+
+array-read-t17 : tie.Need-array-read-t17
+array-read-t17 c = search needs
+
+array-read-t20 : tie.Need-array-read-t20
+array-read-t20 c = search needs
+
+slice-aggregate-short-at : tie.Need-slice-aggregate-short-at
+slice-aggregate-short-at c = search needs
+
+short-at-requires : tie.Need-short-at-requires
+short-at-requires c κs = search needs
+
+returns-2 : tie.Need-returns-2
+returns-2 c =
+    let t = c .before .before in
+    found-accepted (t .before .before .args .t1) (t .if2 .taken) (c .short-at .ensures)
+
+array-read-t27 : tie.Need-array-read-t27
+array-read-t27 c = search needs
+
+array-read-t30 : tie.Need-array-read-t30
+array-read-t30 c = search needs
+
+returns-3 : tie.Need-returns-3
+returns-3 c = found-gave (c .before .before .before .args .t1) (c .if3 .taken)
+
+returns-4 : tie.Need-returns-4
+returns-4 c =
+    let e = c .before .before in
+    found-nothing (e .before .args .t1) (e .if1 .left) (c .before .if2 .left) (c .if3 .left)
+
+pub outcome-spec : {M : Type 1} → statement M
+outcome-spec =
+    tie.close
+    (tie.spec
+    array-read-kind
+    array-read-t10
+    slice-aggregate-number-at
+    number-at-requires
+    returns
+    array-read-t17
+    array-read-t20
+    slice-aggregate-short-at
+    short-at-requires
+    returns-2
+    array-read-t27
+    array-read-t30
+    returns-3
+    returns-4)

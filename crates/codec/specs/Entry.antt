@@ -1,0 +1,41 @@
+-- Bytes put over a list from a place on.
+use mathlib.Core.List.{List, _++_}
+use mathlib.Core.Bool.{cond}
+use Prim.Native.Nat.{ℕ, _+_, _^_, _<_}
+use lib.Dec.{eqb, ltb}
+use lib.ListN.{length, take, drop, getD}
+use Rattle.radix.specs.Digits.{ofBytes}
+use Rattle.protocol.specs.Outcome.{entry}
+use Rattle.protocol.specs.declared.Outcome.{Outcome}
+use Rattle.protocol.specs.declared.Outcome.the-variants.{Nothing, Shown, Accepted, GaveUp}
+
+abbrev pub overlay : List ℕ → ℕ → List ℕ → List ℕ
+overlay l at bytes = take at l ++ bytes ++ drop (at + length bytes) l
+
+-- the bytes, and the place after them
+pub record Added : Type 0 where
+  pub log : List ℕ
+  pub at : ℕ
+
+abbrev pub added : List ℕ → ℕ → Added
+added l at = record { log = l; at = at }
+
+-- an entry, if there is room for it
+unfoldable pub putAt : List ℕ → ℕ → Outcome → Added
+putAt log at o =
+    cond (ltb (length log) (at + length (entry o))) (added log at)
+    (added (overlay log at (entry o)) (at + length (entry o)))
+
+-- the outcome whose entry a log begins with
+unfoldable pub outcomeIn : List ℕ → Outcome
+outcomeIn l =
+    cond (eqb (getD l 0 0) 1) (Shown (getD l 1 0) (record { 0 = ofBytes (take 8 (drop 2 l)) }))
+    (cond (eqb (getD l 0 0) 2) (Accepted (getD l 1 0) (getD l 2 0) (record { 0 = ofBytes (take 4 (drop 3 l)) }))
+    (cond (eqb (getD l 0 0) 3) (GaveUp (getD l 1 0) (getD l 2 0)) Nothing))
+
+-- an outcome's numbers fit into the bytes of its entry
+abbrev pub Fits : Outcome → Type 0
+Fits Nothing = Unit {0}
+Fits (Shown r c) = c .0 < 2 ^ 64
+Fits (Accepted r k v) = v .0 < 2 ^ 32
+Fits (GaveUp r k) = Unit {0}

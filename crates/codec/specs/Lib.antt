@@ -1,0 +1,4 @@
+pub mod Decode
+pub mod Encode
+pub mod Entry
+pub mod Packed

@@ -1,0 +1,108 @@
+// Entries of the log.
+ghost use mathlib.Core.Path.{_≡_};
+ghost use Prim.Native.Nat.{_+_, _≤_};
+ghost use lib.ListN.{length};
+ghost use Rattle.protocol.specs.Outcome.{entry as entryOf};
+ghost use Rattle.codec.specs.Entry.{overlay, added, outcomeIn, putAt};
+use crate::numbers;
+use protocol::Outcome;
+use radix::Count;
+use radix::Version;
+
+// How many bytes the entry of an outcome takes.
+pub fn size(o: Outcome) -> usize
+    ensures { λ r. ⌜ r ≡ length (entryOf o) ⌝ }
+{
+    match o {
+        Outcome::Nothing => 0,
+        Outcome::Shown {
+            reader: _,
+            count: _,
+        } => 10,
+        Outcome::Accepted {
+            reader: _,
+            attempts: _,
+            version: _,
+        } => 7,
+        Outcome::GaveUp {
+            reader: _,
+            attempts: _,
+        } => 3,
+    }
+}
+
+// The entry of an outcome, for which there is room.
+fn fill(log: &mut [u8], at: usize, o: Outcome)
+    requires { ⌜ at + length (entryOf o) ≤ length (now log) ⌝ }
+    ensures { λ r. ⌜ now (log .exit) ≡ overlay (now (log .entry)) at (entryOf o) ⌝ }
+{
+    match o {
+        Outcome::Nothing => {}
+        Outcome::Shown { reader, count } => {
+            log[at] = 1;
+            log[at + 1] = reader;
+            numbers::put_number(log, at + 2, 8, count.0);
+        }
+        Outcome::Accepted {
+            reader,
+            attempts,
+            version,
+        } => {
+            log[at] = 2;
+            log[at + 1] = reader;
+            log[at + 2] = attempts;
+            numbers::put_number(log, at + 3, 4, version.0 as u64);
+        }
+        Outcome::GaveUp { reader, attempts } => {
+            log[at] = 3;
+            log[at + 1] = reader;
+            log[at + 2] = attempts;
+        }
+    }
+}
+
+// The entry of an outcome, if there is room for it from a place on; the place after it. Most commands have none, so that
+// is asked first.
+pub fn put(log: &mut [u8], at: usize, o: Outcome) -> usize
+    ensures { λ r. ⌜ added (now (log .exit)) r ≡ putAt (now (log .entry)) at o ⌝ }
+{
+    if let Outcome::Nothing = o {
+        return at;
+    }
+    let k = size(o);
+    if log.len() < at {
+        return at;
+    }
+    if log.len() - at < k {
+        return at;
+    }
+    fill(log, at, o);
+    at + k
+}
+
+// The outcome whose entry a log of ten bytes begins with.
+pub fn outcome(log: [u8; 10]) -> Outcome
+    ensures { λ r. ⌜ r ≡ outcomeIn log ⌝ }
+{
+    let kind = log[0];
+    if kind == 1 {
+        return Outcome::Shown {
+            reader: log[1],
+            count: Count(numbers::number_at(&log, 2)),
+        };
+    }
+    if kind == 2 {
+        return Outcome::Accepted {
+            reader: log[1],
+            attempts: log[2],
+            version: Version(numbers::short_at(&log, 3)),
+        };
+    }
+    if kind == 3 {
+        return Outcome::GaveUp {
+            reader: log[1],
+            attempts: log[2],
+        };
+    }
+    Outcome::Nothing
+}

@@ -1,0 +1,23 @@
+// Bytes that leave or enter the library: commands, entries of the log, readers' states. Every function is total.
+mod commands;
+mod entries;
+mod numbers;
+mod states;
+
+pub use commands::decode;
+pub use commands::encode;
+pub use entries::outcome;
+pub use entries::put;
+pub use entries::size;
+use protocol::Command;
+pub use states::pack;
+pub use states::unpack;
+
+pub enum Decoded {
+    // No byte is left.
+    Over,
+    // An unknown kind, or a body cut short.
+    Unknown,
+    // A command, and where the next one starts.
+    Is(Command, usize),
+}

@@ -1,0 +1,91 @@
+// A reader's state in 27 bytes.
+ghost use mathlib.Core.Path.{_≡_};
+ghost use Prim.Native.Nat.{_+_, _≤_};
+ghost use lib.ListN.{length, take, drop};
+ghost use Rattle.codec.specs.Entry.{overlay};
+ghost use Rattle.codec.specs.Packed.{packedAt, unpackedAt};
+use crate::numbers;
+use protocol::Reader;
+use protocol::Stage;
+
+fn long(x: usize) -> u64
+    ensures { λ r. ⌜ r ≡ x ⌝ }
+{
+    x as u64
+}
+
+fn index(x: u64) -> usize
+    ensures { λ r. ⌜ r ≡ x ⌝ }
+{
+    x as usize
+}
+
+// Sixteen digits from a place on.
+fn put_digits(out: &mut [u8], at: usize, digits: &[u8])
+    requires { ⌜ (at + 16 ≤ length (now out)) × (length (now digits) ≡ 16) ⌝ }
+    ensures { λ r. ⌜ now (out .exit) ≡ overlay (now (out .entry)) at (now (digits .entry)) ⌝ }
+{
+    let mut k: usize = 0;
+    while k < 16 {
+        out[at + k] = digits[k];
+        k = k + 1;
+    }
+}
+
+fn digits_at(s: &[u8], at: usize) -> [u8; 16]
+    requires { ⌜ at + 16 ≤ length (now s) ⌝ }
+    ensures { λ r. ⌜ r ≡ take 16 (drop at (now (s .entry))) ⌝ }
+{
+    let mut out = [0u8; 16];
+    let mut k: usize = 0;
+    while k < 16 {
+        out[k] = s[at + k];
+        k = k + 1;
+    }
+    out
+}
+
+// State i of the packed states becomes x, if it is there.
+pub fn pack(out: &mut [u8], i: usize, x: Reader)
+    ensures { λ r. ⌜ now (out .exit) ≡ packedAt (now (out .entry)) i x ⌝ }
+{
+    if out.len() / 27 <= i {
+        return;
+    }
+    let at = i * 27;
+    let s = x.stage;
+    let d = x.digits;
+    out[at] = s.kind;
+    out[at + 1] = s.allowed;
+    out[at + 2] = s.finished;
+    numbers::put_number(out, at + 3, 8, long(s.steps));
+    put_digits(out, at + 11, &d);
+}
+
+// State i of the packed states; an idle one, if it is not there.
+pub fn unpack(s: &[u8], i: usize) -> Reader
+    ensures { λ r. ⌜ r ≡ unpackedAt (now (s .entry)) i ⌝ }
+{
+    if s.len() / 27 <= i {
+        return Reader {
+            stage: Stage {
+                kind: 0,
+                allowed: 0,
+                finished: 0,
+                steps: 0,
+            },
+            digits: [0; 16],
+        };
+    }
+    let at = i * 27;
+    let d = digits_at(s, at + 11);
+    Reader {
+        stage: Stage {
+            kind: s[at],
+            allowed: s[at + 1],
+            finished: s[at + 2],
+            steps: index(numbers::number_at(s, at + 3)),
+        },
+        digits: d,
+    }
+}

@@ -1,0 +1,90 @@
+-- One command, as C and Rust hand it over, and what they are told.
+use mathlib.Core.List.{List}
+use mathlib.Core.Bool.{Bool, cond}
+use Prim.Native.Nat.{ℕ}
+use lib.Dec.{eqb}
+use Rattle.protocol.specs.Form.{Form, between}
+use Rattle.protocol.specs.Memory.{Memory}
+use Rattle.protocol.specs.Outcome.{refusalNumber}
+use Rattle.protocol.specs.declared.Command.{Command}
+use Rattle.protocol.specs.declared.Command.the-variants.{
+  WriteCount,
+  WriteRecord,
+  WriterStep,
+  BeginCountRead,
+  BeginRecordRead,
+  ReaderStep,
+  Cancel,
+}
+use Rattle.protocol.specs.declared.Ending.{Ending}
+use Rattle.protocol.specs.declared.Ending.the-variants.{Finished, Refused}
+use Rattle.protocol.specs.declared.Outcome.{Outcome}
+use Rattle.protocol.specs.declared.Outcome.the-variants.{Nothing, Shown, Accepted, GaveUp}
+use Rattle.protocol.specs.declared.Refusal.{Refusal}
+use Rattle.page.specs.declared.Answer.{Answer}
+use Rattle.page.specs.declared.Answer.the-variants.{Done as WasDone, Refused as WasRefused}
+use Rattle.page.specs.declared.Stepped.{Stepped}
+use Rattle.page.specs.Carry.{After}
+use Rattle.page.specs.Calls.{startLent, stepLent}
+use Rattle.lagumtay.specs.declared.stepping.Order.{Order}
+use Rattle.lagumtay.specs.declared.stepping.Told.{Told}
+use Rattle.lagumtay.specs.declared.stepping.Ended.{Ended}
+
+-- one of document 01's seven kinds
+abbrev pub known : Order → Bool
+known o = between 1 7 (o .kind)
+
+unfoldable pub commandOf : Order → Command
+commandOf o =
+    cond (eqb (o .kind) 1) (WriteCount (o .count))
+    (cond (eqb (o .kind) 2) (WriteRecord (o .index))
+    (cond (eqb (o .kind) 3) WriterStep
+    (cond (eqb (o .kind) 4) (BeginCountRead (o .reader))
+    (cond (eqb (o .kind) 5) (BeginRecordRead (o .reader) (o .attempts))
+    (cond (eqb (o .kind) 6) (ReaderStep (o .reader))
+    (cond (eqb (o .kind) 7) (Cancel (o .reader)) (ReaderStep 255)))))))
+
+abbrev pub tell : (kind reader attempts version count : ℕ) → Told
+tell k r a v c =
+    record { kind = k; reader = r; attempts = a; version = record { 0 = v }; count = record { 0 = c } }
+
+unfoldable pub toldOf : Outcome → Told
+toldOf Nothing = tell 0 0 0 0 0
+toldOf (Shown r c) = tell 1 r 0 0 (c .0)
+toldOf (Accepted r k v) = tell 2 r k (v .0) 0
+toldOf (GaveUp r k) = tell 3 r k 0 0
+
+-- as the code has it: of an unknown kind, that there is no such reader means that the command is unknown
+unfoldable pub numberOf : Order → Refusal → ℕ
+numberOf o why =
+    cond (known o) (refusalNumber why) (cond (eqb (refusalNumber why) 8) 11 (refusalNumber why))
+
+unfoldable pub endOf : Order → Stepped → Answer → Ended
+endOf o s (WasDone x) = record { refusal = 0; told = toldOf x; writer = s .writer }
+endOf o s (WasRefused why) = record { refusal = numberOf o why; told = toldOf Nothing; writer = s .writer }
+
+abbrev pub endedOf : Order → Stepped → Ended
+endedOf o s = endOf o s (s .answer)
+
+-- A STEP
+pub record SteppedLeft : Type 0 where
+  pub refusal : ℕ
+  pub told : Told
+  pub memory : Memory
+
+abbrev pub steppedLeft : ℕ → Told → Memory → SteppedLeft
+steppedLeft r t L = record { refusal = r; told = t; memory = L }
+
+unfoldable pub answeredLeft : Memory → Answer → SteppedLeft
+answeredLeft L (WasDone x) = steppedLeft 0 (toldOf x) L
+answeredLeft L (WasRefused why) = steppedLeft (refusalNumber why) (toldOf Nothing) L
+
+-- an unknown kind is refusal 11, after 1 to 3
+unfoldable pub unknownLeft : Memory → Ending → SteppedLeft
+unknownLeft L Finished = steppedLeft 11 (toldOf Nothing) L
+unknownLeft L (Refused why) = steppedLeft (refusalNumber why) (toldOf Nothing) L
+
+unfoldable pub stepCall : Form → (records : List ℕ) → Memory → Order → SteppedLeft
+stepCall F S L o =
+    let x = stepLent F S L (commandOf o) in
+    cond (known o) (answeredLeft (x .memory) (x .answer)) (unknownLeft L (startLent F S L))

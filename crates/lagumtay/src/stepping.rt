@@ -1,0 +1,170 @@
+// One command over a caller's memory.
+ghost use mathlib.Core.Path.{_≡_};
+ghost use Rattle.protocol.specs.Form.{formOf};
+ghost use Rattle.page.specs.Carry.{lent};
+ghost use Rattle.lagumtay.specs.Step.{known as isKnown, commandOf, toldOf, numberOf, endedOf, steppedLeft, stepCall};
+use page::Answer;
+use page::Stepped;
+use protocol::Command;
+use protocol::Format;
+use protocol::Outcome;
+use protocol::Reader;
+use protocol::Refusal;
+use protocol::Writer;
+use radix::Count;
+use radix::Version;
+
+// A command, by document 01's kinds 1 to 7. A number that its kind does not ask for is not looked at.
+#[repr(C)]
+pub struct Order {
+    pub kind: u8,
+    pub reader: u8,
+    pub attempts: u8,
+    pub index: u16,
+    pub count: Count,
+}
+
+// How it ended, by the kinds of the log's entries; 0 if there is none. A number that its kind does not have is 0.
+#[repr(C)]
+pub struct Told {
+    pub kind: u8,
+    pub reader: u8,
+    pub attempts: u8,
+    pub version: Version,
+    pub count: Count,
+}
+
+// What a step answers, in the types that leave the library.
+pub(crate) struct Ended {
+    pub(crate) refusal: u8,
+    pub(crate) told: Told,
+    pub(crate) writer: Writer,
+}
+
+fn known(o: Order) -> bool
+    ensures { λ r. ⌜ r ≡ isKnown o ⌝ }
+{
+    if o.kind < 1 {
+        return false;
+    }
+    o.kind <= 7
+}
+
+// What an unknown kind asks instead is refused too, after the checks of the start: there are not so many readers.
+fn command_of(o: Order) -> Command
+    ensures { λ r. ⌜ r ≡ commandOf o ⌝ }
+{
+    let kind = o.kind;
+    match kind {
+        1 => Command::WriteCount(Count(o.count.0)),
+        2 => Command::WriteRecord(o.index),
+        3 => Command::WriterStep,
+        4 => Command::BeginCountRead(o.reader),
+        5 => Command::BeginRecordRead(o.reader, o.attempts),
+        6 => Command::ReaderStep(o.reader),
+        7 => Command::Cancel(o.reader),
+        _ => Command::ReaderStep(255),
+    }
+}
+
+fn told_of(o: Outcome) -> Told
+    ensures { λ r. ⌜ r ≡ toldOf o ⌝ }
+{
+    match o {
+        Outcome::Nothing => Told {
+            kind: 0,
+            reader: 0,
+            attempts: 0,
+            version: Version(0),
+            count: Count(0),
+        },
+        Outcome::Shown { reader, count } => Told {
+            kind: 1,
+            reader: reader,
+            attempts: 0,
+            version: Version(0),
+            count: count,
+        },
+        Outcome::Accepted {
+            reader,
+            attempts,
+            version,
+        } => Told {
+            kind: 2,
+            reader: reader,
+            attempts: attempts,
+            version: version,
+            count: Count(0),
+        },
+        Outcome::GaveUp { reader, attempts } => Told {
+            kind: 3,
+            reader: reader,
+            attempts: attempts,
+            version: Version(0),
+            count: Count(0),
+        },
+    }
+}
+
+// The number of a refusal; of an unknown kind, that there is no such reader means that the command is unknown.
+fn number(o: Order, why: Refusal) -> u8
+    ensures { λ r. ⌜ r ≡ numberOf o why ⌝ }
+{
+    let k = protocol::refusal_number(why);
+    if known(o) {
+        return k;
+    }
+    if k == 8 {
+        return 11;
+    }
+    k
+}
+
+fn end(o: Order, s: Stepped) -> Ended
+    ensures { λ r. ⌜ r ≡ endedOf o s ⌝ }
+{
+    let a = s.answer;
+    let w = s.writer;
+    match a {
+        Answer::Done(x) => Ended {
+            refusal: 0,
+            told: told_of(x),
+            writer: w,
+        },
+        Answer::Refused(why) => Ended {
+            refusal: number(o, why),
+            told: told_of(Outcome::Nothing),
+            writer: w,
+        },
+    }
+}
+
+// Carry out one command. A refused one leaves all that is lent as it was.
+#[no_mangle]
+pub extern "C" fn lagumtay_step(
+    format: &Format,
+    bases: &[u16],
+    page: &mut [u8],
+    writer: &mut Writer,
+    readers: &mut [Reader],
+    buffers: &mut [u8],
+    records: &[u8],
+    order: &Order,
+    outcome: &mut Told,
+) -> u8
+    ensures { λ r. ⌜ steppedLeft r (now (outcome .exit))
+        (lent (now (page .exit)) (now (writer .exit)) (now (readers .exit)) (now (buffers .exit)))
+        ≡ stepCall (formOf (now (bases .entry)) (now (format .entry))) (now (records .entry))
+        (lent (now (page .entry)) (now (writer .entry)) (now (readers .entry)) (now (buffers .entry)))
+        (now (order .entry)) ⌝ }
+{
+    let f = *format;
+    let w = *writer;
+    let o = *order;
+    let x = command_of(o);
+    let s = page::step(readers, f, bases, page, w, buffers, records, x);
+    let e = end(o, s);
+    *writer = e.writer;
+    *outcome = e.told;
+    e.refusal
+}

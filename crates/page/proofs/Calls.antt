@@ -1,0 +1,13 @@
+pub mod Endings
+pub mod Every
+pub mod Filled
+pub mod Opened
+pub mod Cleared
+pub mod Starts
+pub mod Begun
+pub mod Packs
+pub mod RoundTrip
+pub mod Carries
+pub mod Cancels
+pub mod Outcomes
+pub mod Steps

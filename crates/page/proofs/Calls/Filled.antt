@@ -1,0 +1,87 @@
+-- A page that is written from the left to the right, part by part.
+use mathlib.Core.Path.{_≡_, refl, sym, ap, _∙_}
+use mathlib.Core.List.{List, [], _∷_, _++_, append-assoc, append-nil}
+use mathlib.Core.Bool.{true}
+use Prim.Native.Nat.{ℕ, _+_, _-_, _≤_, _<_}
+use native.Mathlib.Nat.{zero-div, zero-mod}
+use native.Mathlib.Omega.{arith}
+use lib.ListN.{length, take, drop, replicate, length-replicate, length-append, length-take, length-drop}
+use lib.Seq.{take-at, drop-drop, drop-length}
+use borrow.Author.Tests.{lt-ltb, eq-eqb}
+use Rattle.radix.specs.Digits.{digits, product}
+use Rattle.radix.specs.Answers.{goodBases, digitsInto}
+use Rattle.codec.specs.Entry.{overlay}
+use Rattle.codec.proofs.Overlays.{overlay-length, take-overlay}
+
+-- all digits of zero are zero
+pub zero-digits : (bs : List ℕ) → digits bs 0 ≡ replicate (length bs) 0
+zero-digits [] = refl
+zero-digits (b ∷ bs) = rw (zero-div, zero-mod, zero-digits bs)
+
+-- what radix writes of a number that the bases can tell
+pub whole-digits :
+    (bs : List ℕ) (x : ℕ) (out : List ℕ) → goodBases bs ≡ true → length out ≡ length bs → x < product bs →
+    digitsInto bs x out .out ≡ digits bs x
+whole-digits bs x out good long low =
+    rw (good, eq-eqb (length out) (length bs) long, lt-ltb x (product bs) low)
+
+-- zeros in a part of a list
+pub zeros-over :
+    (l : List ℕ) (at k : ℕ) {s : List ℕ} → at + k ≤ length l → s ≡ replicate (length (take (at + k - at) (drop at l))) 0 →
+    take at l ++ (s ++ drop (at + k - at) (drop at l)) ≡ overlay l at (replicate k 0)
+zeros-over l at k h e =
+    let w : at + k - at ≡ k = omega arith in
+    let n : length (take k (drop at l)) ≡ k = simp (length-take, length-drop) (omega arith) in
+    let o : at + length {A = ℕ} (replicate k 0) ≡ at + k = ap (λ j. at + j) (length-replicate {A = ℕ} k 0) in
+    rw (e, w, n, o, drop-drop k at l) (sym (append-assoc (take at l) (replicate k 0) (drop (at + k) l)))
+
+-- the page after its first m digits d, and after the same once more
+abbrev pub once : (m : ℕ) → List ℕ → List ℕ → List ℕ
+once m d p = d ++ drop m p
+
+abbrev pub twice : (m end : ℕ) → List ℕ → List ℕ → List ℕ
+twice m end d p = take m (once m d p) ++ (d ++ drop (end - m) (drop m (once m d p)))
+
+pub both-written :
+    (m end : ℕ) (p z : List ℕ) {x y d : List ℕ} → x ≡ d → y ≡ d →
+    overlay (take m (once m x p) ++ (y ++ drop (end - m) (drop m (once m x p)))) end z ≡ overlay (twice m end d p) end z
+both-written m end p z e f = rw (e, f)
+
+-- what the second write is lent
+pub second-length :
+    (m end : ℕ) (d p : List ℕ) → end ≡ m + m → length d ≡ m → end ≤ length p →
+    length (take (end - m) (drop m (once m d p))) ≡ m
+second-length m end d p w e h = simp (length-take, length-drop, length-append) (omega arith)
+
+-- the last part
+last-written : (p : List ℕ) (at : ℕ) (s : List ℕ) → at + length s ≡ length p → overlay p at s ≡ take at p ++ s
+last-written p at s e = rw (e, drop-length p) (append-nil (take at p ++ s))
+
+module _ (p d z r : List ℕ) (m end q n : ℕ) (w : end ≡ m + m) (ed : length d ≡ m) where
+  twice-length : end ≤ length p → length (twice m end d p) ≡ length p
+  twice-length h = simp (length-append, length-take, length-drop) (omega arith)
+
+  twice-written : take end (twice m end d p) ≡ d ++ d
+  twice-written =
+      let rest = drop (end - m) (drop m (once m d p)) in
+      rw (take-at d (drop m p) m ed, ← append-assoc d d rest)
+      (take-at (d ++ d) rest end (simp length-append (omega arith)))
+
+  -- the whole page
+  pub filled :
+      length z ≡ q → length r ≡ n → length p ≡ end + (q + n + q) →
+      overlay (overlay (overlay (twice m end d p) end z) (end + q) r) (end + q + n) z ≡ d ++ d ++ z ++ r ++ z
+  filled ez er h =
+      let two = twice m end d p in
+      let three = overlay two end z in
+      let four = overlay three (end + q) r in
+      let l₂ : length two ≡ length p = twice-length (omega arith) in
+      let l₃ : length three ≡ length p = overlay-length two end z (omega arith) ∙ l₂ in
+      let l₄ : length four ≡ length p = overlay-length three (end + q) r (omega arith) ∙ l₃ in
+      let t₃ : take (end + q) three ≡ take end two ++ z =
+      ap (λ k. take (end + k) three) (sym ez) ∙ take-overlay two end z (omega arith)
+      in
+      let t₄ : take (end + q + n) four ≡ take (end + q) three ++ r =
+      ap (λ k. take (end + q + k) four) (sym er) ∙ take-overlay three (end + q) r (omega arith)
+      in
+      last-written four (end + q + n) z (omega arith) ∙ rw (t₄, t₃, twice-written)

@@ -1,0 +1,156 @@
+-- What a command answers on valid memory has numbers that fit into the bytes of their entry.
+use mathlib.Core.Path.{_≡_, sym, subst}
+use mathlib.Core.Logic.{inr}
+use mathlib.Core.List.{List, _∷_, _++_, reverse}
+use mathlib.Core.Bool.{true, _&&_, _||_, not}
+use Prim.Native.Nat.{ℕ, zero, suc, _+_, _-_, _≤_, _<_}
+use native.Mathlib.Omega.{arith}
+use lib.Dec.{eqb, ltb, leb}
+use lib.ListN.{length, getD, drop, length-append}
+use lib.Seq.{drop-cons}
+use borrow.Author.Tests.{lt-ltb, ltb-false}
+use Rattle.radix.specs.declared.Comparison.{Comparison}
+use Rattle.radix.specs.declared.Comparison.the-variants.{Equal, Parted, Crossed}
+use Rattle.radix.specs.Digits.{product, value, valid}
+use Rattle.radix.specs.Copies.{compare}
+use Rattle.radix.proofs.Theorems.RoundTrip.{valid-sound, value-lt}
+use Rattle.radix.proofs.Laws.Ends.{zeros-after, ends-fit}
+use Rattle.protocol.specs.Lists.{every}
+use Rattle.protocol.specs.Form.{Form, m, versionBases, countSteps, recordSteps, goodForm}
+use Rattle.protocol.specs.Layout.{look, c2, v1}
+use Rattle.protocol.specs.State.{Writing, resting, aCount, aRecord, busyWriting}
+use Rattle.protocol.specs.State.{Reading, idle, ofCount, ofRecord, State, readingOf, bufferOf, busyReading}
+use Rattle.protocol.specs.Step.{Answer, refused, done, Gathered, gathered, copyA, copyB, nextPosition, endCount, endAttempt}
+use Rattle.protocol.specs.Step.{gather, onGathered, inRecords, stepWriter, carry}
+use Rattle.protocol.specs.declared.Command.{Command}
+use Rattle.protocol.specs.declared.Command.the-variants.{
+  WriteCount,
+  WriteRecord,
+  WriterStep,
+  BeginCountRead,
+  BeginRecordRead,
+  ReaderStep,
+  Cancel,
+}
+use Rattle.protocol.proofs.Lists.Cases.{by-cond, together, all-getD}
+use Rattle.protocol.proofs.InRange.{in-range}
+use Rattle.protocol.proofs.Allowed.Means.{GoodReading, Good}
+use Rattle.protocol.proofs.Allowed.Reader.{Fits as Below, fits}
+use Rattle.checks.proofs.Digits.Valid.{Fit, valid-fit, fit-valid, every-at}
+use Rattle.checks.proofs.Forms.{good-counts}
+use Rattle.codec.specs.Entry.{Fits}
+use Rattle.page.proofs.Readers.Fitting.{fit-copyA, fit-copyB, version-copyB}
+
+abbrev pub Fine : Answer → Type 0
+Fine (refused why) = Unit {0}
+Fine (done σ o) = Fits o
+
+abbrev Told : Gathered → Type 0
+Told (Gathered.refused why) = Unit {0}
+Told (gathered y b o) = Fits o
+
+module _ (F : Form) (good : goodForm F ≡ true) where
+  abbrev order : List ℕ
+  order = F .bases ++ reverse (F .bases)
+
+  shown-fits :
+      (r : ℕ) (b one two : List ℕ) → valid (F .bases) one ≡ true → valid (F .bases) two ≡ true → (x : Comparison) →
+      Told (endCount F r b one two x)
+  unfolding endCount
+  shown-fits r b one two v w Equal =
+      omega (arith, value-lt (valid-sound (F .bases) one v), in-range F good .count-fits)
+  shown-fits r b one two v w (Parted p) =
+      omega (arith, zeros-after (suc p) (F .bases) two w, ends-fit (suc p) (F .bases) two w (good-counts F good))
+  shown-fits r b one two v w Crossed = tt
+
+  -- all digits of a count read are below their bases
+  all-fit :
+      (d : ℕ) (ds : List ℕ) → GoodReading F (ofCount ds) → Below F (ofCount ds) d → countSteps F ≤ suc (length ds) →
+      Fit order (d ∷ ds)
+  all-fit d ds g t h =
+      let zeroth : countSteps F - suc (length ds) ≡ 0 = omega (arith, g .0) in
+      let first : countSteps F - length ds ≡ 1 = omega (arith, g .0) in
+      let low : d < getD order 0 0 = rw zeroth at t in
+      let rest : valid (drop 1 order) ds ≡ true = subst (λ p. valid (drop p order) ds ≡ true) first (g .1) in
+      let some : 0 < length order =
+      omega (arith, length-append (F .bases) (reverse (F .bases)), in-range F good .places)
+      in
+      valid-fit order (d ∷ ds)
+      (subst (λ (y : List ℕ). valid y (d ∷ ds) ≡ true) (sym (drop-cons order 0 0 some))
+      (together (lt-ltb d (getD order 0 0) low) rest))
+
+  attempt-fits :
+      (r a f : ℕ) (b : List ℕ) (ds : List ℕ) → length ds ≡ F .q + F .q →
+      ((k : ℕ) → k < length ds → getD ds k 0 < F .base) → Told (endAttempt F r a f b ds)
+  unfolding endAttempt
+  attempt-fits r a f b ds long low =
+      let v = value (versionBases F) (copyB (F .q) ds) in
+      let w : valid (versionBases F) (copyB (F .q) ds) ≡ true =
+      fit-valid (versionBases F) (copyB (F .q) ds) (version-copyB (F .q) (F .base) ds long low)
+      in
+      by-cond Told (eqb v (value (versionBases F) (copyA (F .q) ds)))
+      (λ e. omega (arith, value-lt (valid-sound (versionBases F) (copyB (F .q) ds) w), in-range F good .version-fits))
+      (λ e. by-cond Told (ltb (suc f) a) (λ g. tt) (λ g. tt))
+
+  gather-fits :
+      (who d : ℕ) (b : List ℕ) (y : Reading) → GoodReading F y → Below F y d → Told (gather F who d y b)
+  unfolding gather
+  gather-fits who d b idle g t = tt
+  gather-fits who d b (ofCount ds) g t =
+      by-cond Told (ltb (suc (length ds)) (countSteps F)) (λ e. tt) (λ e.
+      let fit = all-fit d ds g t (ltb-false (suc (length ds)) (countSteps F) e) in
+      shown-fits who b (copyA (m F) (d ∷ ds)) (copyB (m F) (d ∷ ds))
+      (fit-valid (F .bases) (copyA (m F) (d ∷ ds)) (fit-copyA (F .bases) (d ∷ ds) fit))
+      (fit-valid (F .bases) (copyB (m F) (d ∷ ds)) (fit-copyB (F .bases) (d ∷ ds) fit))
+      (compare (copyA (m F) (d ∷ ds)) (copyB (m F) (d ∷ ds))))
+  gather-fits who d b (ofRecord a f s ds) g t =
+      by-cond Told (leb (F .q) s && ltb s (F .q + F .n)) (λ e. tt) (λ e.
+      by-cond Told (ltb (suc s) (recordSteps F)) (λ h. tt) (λ h.
+      let last : recordSteps F ≤ suc s = ltb-false (suc s) (recordSteps F) h in
+      let past : F .q + F .n ≤ s = omega (arith, in-range F good .versions) in
+      attempt-fits who a f b (d ∷ ds) (omega (arith, g .1, g .2, in-range F good .versions))
+      (low (t (inr past)) (g .3))))
+    where
+      low : d < F .base → every (λ e. ltb e (F .base)) ds ≡ true → (k : ℕ) → k < suc (length ds) → getD (d ∷ ds) k 0 < F .base
+      low l h zero i = l
+      low l h (suc k) i = every-at (F .base) ds h k (omega arith)
+
+  -- each command
+  module _ (S : List ℕ) (σ : State) (fine : Good F S σ) where
+    told-fine : (r : ℕ) (y : Gathered) → Told y → Fine (onGathered σ r y)
+    unfolding onGathered
+    told-fine r (Gathered.refused why) h = tt
+    told-fine r (gathered y b o) h = h
+
+    writer-fine : (w : Writing) → Fine (stepWriter F S σ w)
+    unfolding stepWriter
+    writer-fine resting = tt
+    writer-fine (aCount c k) = tt
+    writer-fine (aRecord v i k) = tt
+
+    pub carry-fits : (x : Command) → Fine (carry F S σ x)
+    unfolding carry
+    carry-fits (WriteCount c) =
+        by-cond Fine (busyWriting (σ .writing)) (λ e. tt) (λ e.
+        by-cond Fine (leb (product (F .bases)) (c .0)) (λ e. tt) (λ e.
+        by-cond Fine (ltb (c .0) (value (F .bases) (look (σ .page) (c2 F)))) (λ e. tt) (λ e. tt)))
+    carry-fits (WriteRecord i) =
+        by-cond Fine (not (inRecords F S i)) (λ e. tt) (λ e.
+        by-cond Fine (busyWriting (σ .writing)) (λ e. tt) (λ e.
+        by-cond Fine (leb (product (versionBases F)) (suc (value (versionBases F) (look (σ .page) (v1 F))))) (λ e. tt)
+        (λ e. tt)))
+    carry-fits WriterStep = writer-fine (σ .writing)
+    carry-fits (BeginCountRead r) =
+        by-cond Fine (leb (F .readers) r) (λ e. tt) (λ e. by-cond Fine (busyReading (readingOf σ r)) (λ e. tt) (λ e. tt))
+    carry-fits (BeginRecordRead r a) =
+        by-cond Fine (leb (F .readers) r || eqb a 0) (λ e. tt) (λ e.
+        by-cond Fine (busyReading (readingOf σ r)) (λ e. tt) (λ e. tt))
+    carry-fits (ReaderStep r) =
+        let y = readingOf σ r in
+        let d = getD (σ .page) (nextPosition F y) 0 in
+        let g : GoodReading F y = all-getD (GoodReading F) (σ .readings) r idle (fine .readings) tt in
+        by-cond Fine (leb (F .readers) r) (λ e. tt) (λ e.
+        told-fine r (gather F r d y (bufferOf σ r))
+        (gather-fits r d (bufferOf σ r) y g (fits F (σ .page) (fine .page) y g)))
+    carry-fits (Cancel r) =
+        by-cond Fine (leb (F .readers) r) (λ e. tt) (λ e. by-cond Fine (busyReading (readingOf σ r)) (λ e. tt) (λ e. tt))

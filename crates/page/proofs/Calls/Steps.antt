@@ -1,0 +1,183 @@
+-- One command is the run of its bytes: what the run of them tells, whatever zeros follow.
+use mathlib.Core.Path.{_≡_, refl, ap, _∙_}
+use mathlib.Core.List.{List, [], _∷_, _++_}
+use mathlib.Core.Bool.{true}
+use Prim.Native.Nat.{ℕ, zero, suc, _-_, _≤_}
+use native.Mathlib.Omega.{arith}
+use lib.ListN.{length, drop, replicate}
+use borrow.Author.Tests.{le-ltb, eq-eqb, ne-eqb}
+use Rattle.protocol.specs.Form.{Form}
+use Rattle.protocol.specs.State.{State}
+use Rattle.protocol.specs.Outcome.{entry}
+use Rattle.protocol.specs.Command.{command, decode}
+use Rattle.protocol.specs.Step.{Answer, refused, done, carry}
+use Rattle.protocol.specs.Memory.{Memory}
+use Rattle.protocol.specs.Load.{load, validMemory}
+use Rattle.protocol.specs.Allowed.{allowed}
+use Rattle.protocol.specs.Run.{Execution, stop, answered, Run, inMemory, run, logAfter}
+use Rattle.protocol.specs.declared.Command.{Command}
+use Rattle.protocol.specs.declared.Ending.{Ending}
+use Rattle.protocol.specs.declared.Ending.the-variants.{Finished, Refused}
+use Rattle.protocol.specs.declared.Outcome.{Outcome}
+use Rattle.protocol.specs.declared.Outcome.the-variants.{Nothing, Shown, Accepted, GaveUp}
+use Rattle.protocol.specs.declared.Refusal.the-variants.{UnknownCommand}
+use Rattle.protocol.proofs.Lists.Cases.{three}
+use Rattle.protocol.proofs.Memory.Stored.{stored-load}
+use Rattle.protocol.proofs.Allowed.Means.{means}
+use Rattle.protocol.proofs.Runs.Fuel.{full, full-over, full-unknown, full-command}
+use Rattle.codec.specs.Encode.{encode, nine, InRange}
+use Rattle.codec.specs.Entry.{outcomeIn, Fits}
+use Rattle.codec.proofs.Encodes.{decode-encode}
+use Rattle.codec.proofs.Nines.{decode-nine, decode-zeros}
+use Rattle.codec.proofs.FoundAgain.{outcome-entry, outcome-zeros}
+use Rattle.checks.proofs.Opening.{opensInto}
+use Rattle.page.specs.declared.Answer.the-variants.{Done, Refused as No}
+use Rattle.page.specs.declared.Ran.{Ran}
+use Rattle.page.specs.Carry.{Ready, After, after, onAnswer}
+use Rattle.page.specs.Calls.{RanLent, ranLent, ranOf, runLent, startLent, answerOf, steppedOf, anyRoom, onStart, stepLent}
+use Rattle.page.specs.Calls.{CarriesStep}
+use Rattle.page.proofs.Calls.Begun.{begins, run-is}
+use Rattle.page.proofs.Calls.Carries.{carries}
+use Rattle.page.proofs.Calls.Outcomes.{Fine, carry-fits}
+
+-- no entry is longer than ten bytes, and it is found again
+pub entry-most : (o : Outcome) → length (entry o) ≤ 10
+unfolding entry
+entry-most Nothing = omega arith
+entry-most (Shown r c) = omega arith
+entry-most (Accepted r k v) = omega arith
+entry-most (GaveUp r k) = omega arith
+
+in-ten : (o : Outcome) → Fits o → outcomeIn ((entry o ++ []) ++ drop (length (entry o ++ [])) (replicate 10 0)) ≡ o
+unfolding entry
+in-ten Nothing h = outcome-zeros 10
+in-ten (Shown r c) h = outcome-entry (Shown r c) [] h (omega arith)
+in-ten (Accepted r k v) h = outcome-entry (Accepted r k v) (replicate 3 0) h (omega arith)
+in-ten (GaveUp r k) h = outcome-entry (GaveUp r k) (replicate 7 0) h (omega arith)
+
+-- what the run of one command comes to, where e is how what follows ends
+abbrev oneRun : State → Ending → Answer → Execution
+oneRun σ e (refused why) = stop σ (Refused why)
+oneRun σ e (done τ o) = record { state = τ; events = record { after = τ; outcome = o } ∷ []; ending = e }
+
+module _ (F : Form) (S : List ℕ) where
+  -- nothing is carried out of these bytes, and it ends so
+  abbrev Quiet : List ℕ → Ending → Type 0
+  Quiet s e = (room : ℕ) (σ : State) → full F S room σ s ≡ stop σ e
+
+  pub none-quiet : Quiet [] Finished
+  none-quiet room σ = full-over F S room σ
+
+  zeros-quiet : (k : ℕ) → Quiet (replicate (suc k) 0) (Refused UnknownCommand)
+  zeros-quiet k room σ = full-unknown F S room σ (replicate (suc k) 0) (decode-zeros k)
+
+  zeros-end : (k : ℕ) → (e : Ending) × Quiet (replicate k 0) e
+  zeros-end zero = (Finished, none-quiet)
+  zeros-end (suc k) = (Refused UnknownCommand, zeros-quiet k)
+
+  one-answered :
+      (rest : List ℕ) (e : Ending) → Quiet rest e → (room : ℕ) → 10 ≤ room → (σ : State) (a : Answer) →
+      answered (full F S) room σ rest a ≡ oneRun σ e a
+  unfolding answered
+  one-answered rest e q room h σ (refused why) = refl
+  one-answered rest e q room h σ (done τ o) =
+      rw (le-ltb room (length (entry o)) (omega (arith, entry-most o)), q (room - length (entry o)) τ)
+
+  module _ (L : Memory) (x : Command) (s rest : List ℕ) (says : decode s ≡ command x rest) (e : Ending)
+      (quiet : Quiet rest e) (log : List ℕ) (room : 10 ≤ length log) where
+    abbrev this : Run
+    this = record { given = s; log = log }
+
+    abbrev answer : Answer
+    answer = carry F S (load F L) x
+
+    run-one : run F S L this ≡ opensInto L (inMemory F (oneRun (load F L) e answer)) (startLent F S L)
+    run-one =
+        run-is F S L this
+        ∙ ap (λ (y : Execution). opensInto L (inMemory F y) (startLent F S L))
+        (full-command F S (length log) (load F L) s x rest says
+        ∙ one-answered rest e quiet (length log) room (load F L) answer)
+
+    -- the memory that it leaves
+    run-leaves : run F S L this .memory ≡ stepLent F S L x .memory
+    unfolding onStart onAnswer
+    run-leaves = ap (λ y. y .memory) run-one ∙ by-start (startLent F S L) refl
+      where
+        by-answer : Ready F S L → (a : Answer) →
+            inMemory F (oneRun (load F L) e a) .memory ≡ onAnswer F anyRoom L a .memory
+        by-answer ready (refused why) = stored-load F S L (ready .lengths) (ready .valid)
+        by-answer ready (done τ o) = rw (le-ltb anyRoom (length (entry o)) (omega (arith, entry-most o)))
+
+        by-start : (z : Ending) → startLent F S L ≡ z →
+            opensInto L (inMemory F (oneRun (load F L) e answer)) z .memory ≡ onStart F S L x z .memory
+        by-start Finished p = by-answer (begins F S L p .ready) answer
+        by-start (Refused why) p = refl
+
+-- what valid memory holds is allowed
+state-allowed : {F : Form} {S : List ℕ} {L : Memory} → Ready F S L → allowed F S (load F L) ≡ true
+unfolding validMemory
+state-allowed {F} {S} {L} ready = three (allowed F S (load F L)) _ _ (ready .valid) .0
+
+-- WHAT IT TELLS, with a log of ten zeros
+abbrev tells : RanLent → After
+tells z = after (steppedOf (z .ran) (z .log) .answer) (z .memory)
+
+module _ (F : Form) (S : List ℕ) (L : Memory) (x : Command) (range : InRange x) where
+  abbrev s : List ℕ
+  s = nine (encode x)
+
+  abbrev rest : List ℕ
+  rest = replicate (9 - length (encode x)) 0
+
+  abbrev log : List ℕ
+  log = replicate 10 0
+
+  run-tells : tells (runLent F S L s log) ≡ stepLent F S L x
+  unfolding runLent onStart onAnswer answerOf
+  run-tells =
+      let (e, quiet) = zeros-end F S (9 - length (encode x)) in
+      ap (λ y. tells (ranLent (ranOf s (y .events) (y .ending) (y .memory .writer)) (y .memory) (logAfter (y .events) log)))
+      (run-one F S L x s rest (decode-nine x range) e quiet log (omega arith))
+      ∙ by-start e (startLent F S L) refl
+    where
+      by-answer : (e : Ending) → Ready F S L → (a : Answer) → Fine a →
+          let y = inMemory F (oneRun (load F L) e a) in
+          tells (ranLent (ranOf s (y .events) (y .ending) (y .memory .writer)) (y .memory) (logAfter (y .events) log))
+          ≡ onAnswer F anyRoom L a
+      by-answer e ready (refused why) h = ap (after (No why)) (stored-load F S L (ready .lengths) (ready .valid))
+      by-answer e ready (done τ o) h =
+          rw (le-ltb anyRoom (length (entry o)) (omega (arith, entry-most o)), in-ten o h)
+
+      by-start : (e z : Ending) → startLent F S L ≡ z →
+          let y = opensInto L (inMemory F (oneRun (load F L) e (carry F S (load F L) x))) z in
+          tells (ranLent (ranOf s (y .events) (y .ending) (y .memory .writer)) (y .memory) (logAfter (y .events) log))
+          ≡ onStart F S L x z
+      by-start e Finished p =
+          let ready = begins F S L p .ready in
+          by-answer e ready (carry F S (load F L) x)
+          (carry-fits F (ready .good) S (load F L) (means F S (load F L) (state-allowed ready)) x)
+      by-start e (Refused why) p = refl
+
+  -- so the code answers
+  pub step-is :
+      {r : Ran} {M : Memory} {l : List ℕ} → ranLent r M l ≡ runLent F S L s log →
+      after (steppedOf r l .answer) M ≡ stepLent F S L x
+  step-is e = ap tells e ∙ run-tells
+
+  -- the claim, with any log that has room for every entry
+  pub step-carries : (l : List ℕ) → 10 ≤ length l → CarriesStep F S L x l
+  step-carries l h = record {
+    leaves = run-leaves F S L x (encode x) [] (decode-encode x range) Finished (none-quiet F S) l h;
+    claim = carries F S L (record { given = encode x; log = l });
+  }
+
+-- WHAT THE CODE MAKES OF IT
+module _ (r : Ran) (l : List ℕ) where
+  pub stepped-done :
+      {o : Outcome} → r .done ≡ 1 → o ≡ outcomeIn l → record { answer = Done o; writer = r .writer } ≡ steppedOf r l
+  stepped-done d e = rw (e, eq-eqb (r .done) 1 d)
+
+  pub stepped-not :
+      {e : Ending} → (r .done ≡ 1 → ⊥) → r .ending ≡ e →
+      record { answer = answerOf e; writer = r .writer } ≡ steppedOf r l
+  stepped-not d p = rw (ne-eqb (r .done) 1 d, p)

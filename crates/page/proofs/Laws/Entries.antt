@@ -1,3 +1,0 @@
--- Laws that the proofs of entry cite.
-pub mod Overlays
-pub mod Outcomes

@@ -1,0 +1,154 @@
+-- What one command of a reader leaves, in all buffers.
+use mathlib.Core.Path.{_≡_, refl, sym, ap, _∙_}
+use mathlib.Core.List.{List, []}
+use mathlib.Core.Bool.{Bool, true, false, cond}
+use Prim.Native.Nat.{ℕ, _+_, _*_, _-_}
+use lib.Dec.{eqb}
+use lib.ListN.{take, drop, getD}
+use borrow.Rule.Slice.PartMut.{putMid}
+use Rattle.radix.specs.declared.Count.{Count}
+use Rattle.protocol.specs.Form.{Form}
+use Rattle.protocol.specs.State.{Reading, idle, ofCount, ofRecord, busyReading}
+use Rattle.protocol.specs.Step.{Gathered, gathered, gather, nextPosition}
+use Rattle.protocol.specs.Memory.{storedReading}
+use Rattle.protocol.specs.Load.{loadReading}
+use Rattle.protocol.specs.declared.Command.{Command}
+use Rattle.protocol.specs.declared.Command.the-variants.{
+  WriteCount,
+  WriteRecord,
+  WriterStep,
+  BeginCountRead,
+  BeginRecordRead,
+  ReaderStep,
+  Cancel,
+}
+use Rattle.protocol.specs.declared.Outcome.the-variants.{Nothing}
+use Rattle.protocol.specs.declared.Refusal.the-variants.{Busy, NothingPending, NoSuch}
+use Rattle.protocol.specs.declared.Reader.{Reader}
+use Rattle.page.specs.declared.Answer.the-variants.{Done, Refused}
+use Rattle.page.specs.declared.ends.Taken.{Taken}
+use Rattle.page.specs.Left.{
+  Left,
+  left,
+  leftBy,
+  Leaves,
+  onGathered,
+  stepped,
+  begun,
+  begunRecord,
+  cancelled,
+}
+use Rattle.page.specs.Reads.{reads, part, putPart, read, readBy, readsAt, whoseOf}
+use Rattle.page.proofs.Readers.Stored.{quiet}
+use Rattle.page.proofs.Readers.Buffers.{put-own, lent-part, back-part}
+
+module _ (F : Form) (page : List ℕ) (i room : ℕ) (x : Reader) (bs : List ℕ) where
+  abbrev b : List ℕ
+  b = part (F .n) i bs
+
+  abbrev y : Reading
+  y = loadReading F x
+
+  -- what is meant, before it is put into all buffers
+  abbrev meant : Gathered → Left
+  meant = onGathered F room x b
+
+  -- A BEGIN AND A CANCEL, as the protocol has them
+
+  begun-meant : (σ : Reading) → begun F σ x b
+      ≡ meant (cond (busyReading y) (Gathered.refused Busy) (gathered σ b Nothing))
+  unfolding onGathered
+  begun-meant σ = go (busyReading y)
+    where
+      go : (t : Bool) → cond t (left (Refused Busy) x b) (left (Done Nothing) (storedReading F σ) b)
+          ≡ meant (cond t (Gathered.refused Busy) (gathered σ b Nothing))
+      go true = refl
+      go false = sym (quiet F room x b σ b)
+
+  record-meant : (a : ℕ) → begunRecord F a x b
+      ≡ meant (cond (eqb a 0) (Gathered.refused NoSuch)
+      (cond (busyReading y) (Gathered.refused Busy) (gathered (ofRecord a 0 0 []) b Nothing)))
+  unfolding onGathered
+  record-meant a = go (eqb a 0)
+    where
+      go : (t : Bool) → cond t (left (Refused NoSuch) x b) (begun F (ofRecord a 0 0 []) x b)
+          ≡ meant (cond t (Gathered.refused NoSuch)
+          (cond (busyReading y) (Gathered.refused Busy) (gathered (ofRecord a 0 0 []) b Nothing)))
+      go true = refl
+      go false = begun-meant (ofRecord a 0 0 [])
+
+  cancel-meant : cancelled F x b ≡ meant (cond (busyReading y) (gathered idle b Nothing) (Gathered.refused NothingPending))
+  unfolding onGathered
+  cancel-meant = go (busyReading y)
+    where
+      go : (t : Bool) → cond t (left (Done Nothing) (storedReading F idle) b) (left (Refused NothingPending) x b)
+          ≡ meant (cond t (gathered idle b Nothing) (Gathered.refused NothingPending))
+      go true = sym (quiet F room x b idle b)
+      go false = refl
+
+  -- INTO ALL BUFFERS
+
+  module _ (c : Command) (t : Taken) (l : List ℕ) where
+    placed : (b′ : List ℕ) → leftBy t l b′ ≡ meant (reads F page i y b c)
+        → readBy t l (putPart (F .n) i b′ bs) ≡ readsAt F page i room x bs c
+    unfolding readsAt
+    placed b′ e = ap (λ (z : Left). read (z .answer) (z .reader) (putPart (F .n) i (z .buffer) bs)) e
+
+    -- the buffer stays
+    kept : leftBy t l b ≡ meant (reads F page i y b c) → readBy t l bs ≡ readsAt F page i room x bs c
+    kept e = ap (readBy t l) (sym (put-own (F .n) i bs)) ∙ placed b e
+
+  module _ (c : Command) where
+    abbrev Reads : Taken → (digits buffers : List ℕ) → Type 0
+    Reads t l bs′ = readBy t l bs′ ≡ readsAt F page i room x bs c
+
+    pub reads-count : (r : ℕ) → c ≡ BeginCountRead r → (t : Taken) (l : List ℕ) → Leaves t l (begun F (ofCount []) x)
+        → Reads t l bs
+    unfolding reads
+    reads-count r e t l h = kept c t l (h b ∙ begun-meant (ofCount []) ∙ ap (λ z. meant (reads F page i y b z)) (sym e))
+
+    pub reads-record : (r a : ℕ) → c ≡ BeginRecordRead r a → (t : Taken) (l : List ℕ) → Leaves t l (begunRecord F a x)
+        → Reads t l bs
+    unfolding reads
+    reads-record r a e t l h = kept c t l (h b ∙ record-meant a ∙ ap (λ z. meant (reads F page i y b z)) (sym e))
+
+    pub reads-cancel : (r : ℕ) → c ≡ Cancel r → (t : Taken) (l : List ℕ) → Leaves t l (cancelled F x) → Reads t l bs
+    unfolding reads
+    reads-cancel r e t l h = kept c t l (h b ∙ cancel-meant ∙ ap (λ z. meant (reads F page i y b z)) (sym e))
+
+    -- the writer's commands are none of a reader's
+    abbrev none : Taken
+    none = record { answer = Refused NoSuch; stage = x .stage }
+
+    pub not-count : (v : Count) → c ≡ WriteCount v → Reads none (x .digits) bs
+    unfolding reads onGathered
+    not-count v e = kept c none (x .digits) (ap (λ z. meant (reads F page i y b z)) (sym e))
+
+    pub not-record : (k : ℕ) → c ≡ WriteRecord k → Reads none (x .digits) bs
+    unfolding reads onGathered
+    not-record k e = kept c none (x .digits) (ap (λ z. meant (reads F page i y b z)) (sym e))
+
+    pub not-step : c ≡ WriterStep → Reads none (x .digits) bs
+    unfolding reads onGathered
+    not-step e = kept c none (x .digits) (ap (λ z. meant (reads F page i y b z)) (sym e))
+
+    -- A STEP, as the code lends the buffer
+    module _ (r : ℕ) (e : c ≡ ReaderStep r) (own : whoseOf c (F .readers) ≡ i) where
+      same : r ≡ i
+      unfolding whoseOf
+      same = sym (ap (λ z. whoseOf z (F .readers)) e) ∙ own
+
+      pub reads-step :
+          (p : ℕ) (t : Taken) (l b′ : List ℕ) → p ≡ nextPosition F y →
+          leftBy t l b′
+          ≡ stepped F r (getD page p 0) room x (take (i * F .n + F .n - i * F .n) (drop (i * F .n) bs)) →
+          Reads t l (putMid (i * F .n) (i * F .n + F .n - i * F .n) bs b′)
+      unfolding reads
+      reads-step p t l b′ at h =
+          ap (readBy t l) (back-part (F .n) i bs b′)
+          ∙ placed c t l b′
+          (h
+          ∙ ap (λ (z : List ℕ). stepped F r (getD page p 0) room x z) (lent-part (F .n) i bs)
+          ∙ ap (λ q. meant (gather F r (getD page q 0) y b)) at
+          ∙ ap (λ w. meant (gather F w (getD page (nextPosition F y) 0) y b)) same
+          ∙ ap (λ z. meant (reads F page i y b z)) (sym e))

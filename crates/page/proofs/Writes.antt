@@ -1,0 +1,11 @@
+pub mod Ink
+pub mod Writers
+pub mod Pending
+pub mod Puts
+pub mod Steps
+pub mod Reads
+pub mod NoReader
+pub mod Beside
+pub mod Lent
+pub mod CountBegins
+pub mod RecordBegins

@@ -1,0 +1,74 @@
+-- What the page says of the last count and the last version, as radix reads them.
+use mathlib.Core.Path.{_≡_, sym, ap, _∙_}
+use mathlib.Core.List.{List}
+use mathlib.Core.Bool.{true}
+use Prim.Native.Nat.{ℕ, _+_, _-_, _≤_}
+use native.Mathlib.Omega.{arith}
+use lib.ListN.{length, take, drop, replicate}
+use borrow.Author.Tests.{le-leb, eq-eqb}
+use Rattle.radix.specs.Digits.{value, valid}
+use Rattle.radix.specs.Answers.{goodBases, valueOf, asCount, asVersion, versionValue}
+use Rattle.radix.specs.declared.CountRead.{CountRead}
+use Rattle.radix.specs.declared.VersionRead.{VersionRead}
+use Rattle.radix.proofs.Theorems.RoundTrip.{valid-sound, length-valid}
+use Rattle.protocol.specs.Lists.{range}
+use Rattle.protocol.specs.Form.{Form, m, versionBases}
+use Rattle.protocol.specs.Layout.{c1, c2, v1, v2, look}
+use Rattle.protocol.specs.Allowed.{allowedPage}
+use Rattle.protocol.specs.declared.Writer.{Writer}
+use Rattle.protocol.proofs.InRange.{in-range}
+use Rattle.protocol.proofs.Lists.Cases.{four}
+use Rattle.checks.proofs.Forms.{good-counts, good-versions}
+use Rattle.checks.proofs.Looks.{look-part}
+use Rattle.page.specs.Writes.{WriteReady}
+
+-- a part of the page, as the code lends it
+lent-part :
+    (page : List ℕ) (a n e : ℕ) → e ≡ a + n → a + n ≤ length page → take (e - a) (drop a page) ≡ look page (range a n)
+lent-part page a n e is h =
+    let size : e - a ≡ n = omega arith in
+    ap (λ k. take k (drop a page)) size ∙ sym (look-part page a n h)
+
+-- valid digits are read as their value
+count-is :
+    (bs ds : List ℕ) → goodBases bs ≡ true → valid bs ds ≡ true →
+    asCount (valueOf bs ds) ≡ CountRead.Is (record { 0 = value bs ds })
+count-is bs ds good v = rw (good, eq-eqb (length ds) (length bs) (length-valid (valid-sound bs ds v)), v)
+
+version-is :
+    (base q : ℕ) → q ≤ 4 → goodBases (replicate q base) ≡ true → (ds : List ℕ) → valid (replicate q base) ds ≡ true →
+    asVersion (versionValue base q ds) ≡ VersionRead.Is (record { 0 = value (replicate q base) ds })
+version-is base q few good ds v =
+    let bs = replicate q base in
+    rw (le-leb q 4 few, good, eq-eqb (length ds) (length bs) (length-valid (valid-sound bs ds v)), v)
+
+module _ (F : Form) (S page : List ℕ) (w : Writer) (ready : WriteReady F S page w) (end : ℕ) where
+  -- the second copy of the count
+  pub read-count :
+      end ≡ m F + m F →
+      asCount (valueOf (F .bases) (take (end - m F) (drop (m F) page)))
+      ≡ CountRead.Is (record { 0 = value (F .bases) (look page (c2 F)) })
+  unfolding allowedPage
+  read-count is =
+      let v =
+      four (valid (F .bases) (look page (c1 F))) (valid (F .bases) (look page (c2 F)))
+      (valid (versionBases F) (look page (v1 F))) (valid (versionBases F) (look page (v2 F))) (ready .allows)
+      in
+      rw (lent-part page (m F) (m F) end is (omega (arith, ready .long)))
+      (count-is (F .bases) (look page (c2 F)) (good-counts F (ready .good)) (v .1))
+
+  -- the first copy of the version
+  pub read-version :
+      (from : ℕ) → from ≡ m F + m F → end ≡ from + F .q →
+      asVersion (versionValue (F .base) (F .q) (take (end - from) (drop from page)))
+      ≡ VersionRead.Is (record { 0 = value (versionBases F) (look page (v1 F)) })
+  unfolding allowedPage
+  read-version from at is =
+      let v =
+      four (valid (F .bases) (look page (c1 F))) (valid (F .bases) (look page (c2 F)))
+      (valid (versionBases F) (look page (v1 F))) (valid (versionBases F) (look page (v2 F))) (ready .allows)
+      in
+      ap (λ a. asVersion (versionValue (F .base) (F .q) (take (end - a) (drop a page)))) at
+      ∙ rw (lent-part page (m F + m F) (F .q) end (omega arith) (omega (arith, ready .long)))
+      (version-is (F .base) (F .q) (in-range F (ready .good) .versions .1) (good-versions F (ready .good))
+      (look page (v1 F)) (v .2))

@@ -1,0 +1,31 @@
+use Rattle.page.proofs.Readers.Begins.{begin-none, begin-late, begin-record}
+use borrow.Author.Needs.{needs}
+use Rattle.page.proofs.begins.begin_record.Statement.{statement}
+use Rattle.page.proofs.begins.begin_record.Tie as tie
+
+refused-requires : tie.Need-refused-requires
+refused-requires c κs = search needs
+
+returns : tie.Need-returns
+returns c =
+    let i = c .before in
+    λ b. rw (c .refused .ensures) (begin-none _ _ (i .before .before .before .pre) b _ (i .if1 .taken))
+
+refused-requires-2 : tie.Need-refused-requires-2
+refused-requires-2 c κs = search needs
+
+returns-2 : tie.Need-returns-2
+returns-2 c =
+    let i = c .before in
+    let e = i .before .before in
+    λ b. rw (c .refused2 .ensures)
+    (begin-late _ _ (e .before .before .before .pre) b _ (e .if1 .left) (i .if2 .taken))
+
+returns-3 : tie.Need-returns-3
+returns-3 c =
+    let e = c .before .before in
+    λ b. begin-record _ _ (e .before .before .before .pre) b _ (e .if1 .left) (c .if2 .left)
+
+pub begin-record-spec : {M : Type 1} → statement M
+begin-record-spec =
+    tie.close (tie.spec refused-requires returns refused-requires-2 returns-2 returns-3)

@@ -1,0 +1,63 @@
+-- After k turns the first k bytes are zeros.
+use mathlib.Core.Path.{_≡_, refl, ap, _∙_}
+use mathlib.Core.List.{_++_}
+use Prim.Native.Nat.{_-_, _≤_}
+use native.Mathlib.Omega.{arith}
+use lib.ListN.{length, drop, replicate}
+use Rattle.page.proofs.Readers.Zeros.{zero-long, zero-more, zero-all}
+use borrow.Author.Needs.{needs}
+use Rattle.page.proofs.ends.zero.Statement.{statement}
+use Rattle.page.proofs.ends.zero.Tie as tie
+
+abbrev Inv-loop : tie.InvT-loop
+Inv-loop bytes₀ k₀ bytes k = (k ≤ length bytes₀) × (bytes ≡ replicate k 0 ++ drop k bytes₀)
+
+abbrev μ-loop : tie.MeasureT-loop
+μ-loop bytes₀ k₀ bytes k = length bytes₀ - k
+
+loop-holds : tie.Need-loop-holds Inv-loop μ-loop
+loop-holds c = (search needs, refl)
+
+-- the bytes keep their length
+long : (c : tie.At-loop Inv-loop μ-loop) → length (c .loop .bytes) ≡ length (c .before .args .bytes .now)
+long c = ap length (c .loop .inv .1) ∙ zero-long (c .loop .k) (c .before .args .bytes .now) (c .loop .inv .0)
+
+slice-write-bytes : tie.Need-slice-write-bytes Inv-loop μ-loop
+slice-write-bytes c = search needs
+
+add-k : tie.Need-add-k Inv-loop μ-loop
+add-k c = search needs
+
+loop-less : tie.Need-loop-less Inv-loop μ-loop
+loop-less c = omega (arith, long (c .before))
+
+loop-again : tie.Need-loop-again Inv-loop μ-loop
+loop-again c =
+    let a = c .before .before .args .bytes .now in
+    let k = c .before .loop .k in (
+      omega (arith, long (c .before)),
+      rw (c .before .loop .inv .1) (zero-more k a (omega (arith, long (c .before)))),
+    )
+
+same-length : tie.Need-same-length Inv-loop μ-loop
+same-length c = long (c .before)
+
+returns : tie.Need-returns Inv-loop μ-loop
+returns c =
+    let x = c .before in
+    x .loop .inv .1
+    ∙ zero-all (x .loop .k) (x .before .args .bytes .now) (omega (arith, long x))
+
+pub zero-spec : {M : Type 1} → statement M
+zero-spec =
+    tie.close
+    (tie.spec
+    Inv-loop
+    μ-loop
+    loop-holds
+    slice-write-bytes
+    add-k
+    loop-less
+    loop-again
+    same-length
+    returns)

@@ -1,0 +1,150 @@
+-- Each arm is one case of `reads`.
+use mathlib.Core.Path.{refl}
+use Prim.Native.Nat.{_+_, _*_, _≤_}
+use native.Mathlib.Omega.{arith}
+use Rattle.protocol.proofs.InRange.{in-range}
+use Rattle.page.proofs.Readers.Buffers.{part-there, part-small}
+use Rattle.page.proofs.Readers.Fits.{step-ready}
+use Rattle.page.proofs.Readers.Commands.{
+  reads-count,
+  reads-record,
+  reads-cancel,
+  reads-step,
+  not-count,
+  not-record,
+  not-step,
+}
+use borrow.Author.Needs.{needs}
+use Rattle.page.proofs.reading.read_at.Statement.{statement}
+use Rattle.page.proofs.reading.read_at.Tie as tie
+
+enum-told : tie.Need-enum-told
+enum-told c = search needs
+
+begin-count-requires : tie.Need-begin-count-requires
+begin-count-requires c κs = search needs
+
+enum-known-x : tie.Need-enum-known-x
+enum-known-x c = search needs
+
+begin-record-requires : tie.Need-begin-record-requires
+begin-record-requires c κs = search needs
+
+enum-known-x-2 : tie.Need-enum-known-x-2
+enum-known-x-2 c = search needs
+
+-- a part's end fits
+bytes : (s : tie.Start) → s .args .i * s .args .format .n + s .args .format .n ≤ 4096
+bytes s =
+    let r = in-range _ (s .pre .held .form) in
+    part-small _ _ (s .args .buffers .now) _ (s .pre .below) (r .readers .1) (r .bytes .1)
+
+mul-from : tie.Need-mul-from
+mul-from c = omega (arith, bytes (c .before .before .before .before .before .before))
+
+add-to : tie.Need-add-to
+add-to c = omega (arith, bytes (c .before .before .before .before .before .before))
+
+position-requires : tie.Need-position-requires
+position-requires c κs = search needs
+
+slice-read-d : tie.Need-slice-read-d
+slice-read-d c = search needs
+
+sub-take : tie.Need-sub-take
+sub-take c = search needs
+
+part-take-start : tie.Need-part-take-start
+part-take-start c = search needs
+
+part-take-end : tie.Need-part-take-end
+part-take-end c =
+    let s = c .before .before .before .before .before .before .before .before .before .before .before in
+    part-there _ _ (s .args .buffers .now) _ (s .pre .below) (s .pre .size)
+
+take-requires : tie.Need-take-requires
+take-requires c κs =
+    let p = c .before .before .before in
+    let s = p .before .before .before .before .before .before .before .before .before in
+    step-ready _ _ _ _ _ _ (s .pre) _ (p .position .ensures .0)
+
+enum-told-2 : tie.Need-enum-told-2
+enum-told-2 c = search needs
+
+drop-read-requires : tie.Need-drop-read-requires
+drop-read-requires c κs = search needs
+
+enum-told-3 : tie.Need-enum-told-3
+enum-told-3 c = search needs
+
+enum-told-4 : tie.Need-enum-told-4
+enum-told-4 c = search needs
+
+enum-told-5 : tie.Need-enum-told-5
+enum-told-5 c = search needs
+
+returns : tie.Need-returns
+returns c =
+    let e = c .before .before .before in
+    (refl, reads-count _ _ _ _ _ _ _ _ (e .enum-told .given .1) _ _ (c .begin-count .ensures))
+
+returns-2 : tie.Need-returns-2
+returns-2 c =
+    let e = c .before .before .before .before in
+    (refl, reads-record _ _ _ _ _ _ _ _ _ (e .x .given .1) _ _ (c .begin-record .ensures))
+
+same-length : tie.Need-same-length
+same-length c = search needs
+
+returns-3 : tie.Need-returns-3
+returns-3 c =
+    let t = c .before .before in
+    let p = t .before .before .before .before in
+    let e = p .before .before .before .before in
+    let s = e .before .before .before .before .before in
+    (refl, reads-step _ _ _ _ _ _ _ _ (e .x2 .given .1) (s .pre .own) _ _ _ _ (p .position .ensures .0) (t .take .ensures))
+
+returns-4 : tie.Need-returns-4
+returns-4 c =
+    let e = c .before .before in
+    (refl, reads-cancel _ _ _ _ _ _ _ _ (e .enum-told2 .given .1) _ _ (c .drop-read .ensures))
+
+returns-5 : tie.Need-returns-5
+returns-5 c = (refl, not-count _ _ _ _ _ _ _ _ (c .enum-told3 .given .1))
+
+returns-6 : tie.Need-returns-6
+returns-6 c = (refl, not-record _ _ _ _ _ _ _ _ (c .enum-told4 .given .1))
+
+returns-7 : tie.Need-returns-7
+returns-7 c = (refl, not-step _ _ _ _ _ _ _ (c .enum-told5 .given .1))
+
+pub read-at-spec : {M : Type 1} → statement M
+read-at-spec =
+    tie.close
+    (tie.spec
+    enum-told
+    begin-count-requires
+    enum-known-x
+    begin-record-requires
+    enum-known-x-2
+    mul-from
+    add-to
+    position-requires
+    slice-read-d
+    sub-take
+    part-take-start
+    part-take-end
+    take-requires
+    enum-told-2
+    drop-read-requires
+    enum-told-3
+    enum-told-4
+    enum-told-5
+    returns
+    returns-2
+    same-length
+    returns-3
+    returns-4
+    returns-5
+    returns-6
+    returns-7)

@@ -1,0 +1,181 @@
+-- Each return is one branch of the protocol's `carry`.
+use borrow.Author.Needs.{needs}
+use mathlib.Core.Path.{_≡_, refl, sym, _∙_}
+use Prim.Native.Nat.{_<_}
+use Rattle.radix.specs.Digits.{product, value}
+use Rattle.radix.specs.declared.CountRead.{CountRead}
+use Rattle.protocol.specs.Form.{Form, formOf}
+use Rattle.protocol.specs.Layout.{c2, look}
+use Rattle.checks.proofs.Forms.{good-counts}
+use Rattle.page.proofs.Writes.Ink.{ink-low, ink-high, ink-bytes}
+use Rattle.page.proofs.Writes.Writers.{answered}
+use Rattle.page.proofs.Writes.Pending.{count-ink-of}
+use Rattle.page.proofs.Writes.Reads.{read-count}
+use Rattle.page.proofs.Writes.CountBegins.{count-busy, count-large, count-unread, count-falls, count-begins}
+use Rattle.page.proofs.write_begin.begin_count.Statement.{statement}
+use Rattle.page.proofs.write_begin.begin_count.Tie as tie
+
+abbrev form : tie.Start → Form
+form s = formOf (s .args .bases .now) (s .args .format)
+
+-- the entry, from the branch on the kind
+abbrev enter-busy : tie.Then1 → tie.Start
+enter-busy k = k .before .before .before .before .before
+
+abbrev enter : tie.Else1 → tie.Start
+enter k = k .before .before .before .before .before
+
+refused-requires : tie.Need-refused-requires
+refused-requires c κs = search needs
+
+returns : tie.Need-returns
+returns c =
+    let k = c .before in
+    let s = enter-busy k in
+    answered (form s) (s .args .page .now) _ (c .refused .ensures)
+    (count-busy (form s) (s .args .records .now) (s .args .page .now) (s .args .p .writer) (s .args .c) (s .pre .0)
+    (k .if1 .taken))
+    (s .pre .1)
+
+of-count-requires : tie.Need-of-count-requires
+of-count-requires c κs = search needs
+
+enum-known-ink : tie.Need-enum-known-ink
+enum-known-ink c = search needs
+
+enum-told : tie.Need-enum-told
+enum-told c = search needs
+
+refused-requires-2 : tie.Need-refused-requires-2
+refused-requires-2 c κs = search needs
+
+returns-2 : tie.Need-returns-2
+returns-2 c =
+    let o = c .before .before .before in
+    let k = o .before in
+    let s = enter k in
+    answered (form s) (s .args .page .now) _ (c .refused2 .ensures)
+    (count-large (form s) (s .args .records .now) (s .args .page .now) (s .args .p .writer) (s .args .c) (s .pre .0)
+    (k .if1 .left)
+    (ink-high (s .args .bases .now) (s .args .c .0) (o .of-count .ensures) (c .before .enum-told .given .1)))
+    (s .pre .1)
+
+count-steps-requires : tie.Need-count-steps-requires
+count-steps-requires c κs = search needs
+
+sub-read : tie.Need-sub-read
+sub-read c = search needs
+
+part-read-start : tie.Need-part-read-start
+part-read-start c = search needs
+
+part-read-end : tie.Need-part-read-end
+part-read-end c = search needs
+
+read-requires : tie.Need-read-requires
+read-requires c κs = search needs
+
+-- the count is not too large; and what the page says
+low : (i : tie.After-ink) →
+    let s = enter (i .before .before .before) in
+    s .args .c .0 < product (s .args .bases .now)
+low i =
+    let o = i .before .before in
+    let s = enter (o .before) in
+    ink-low (s .args .bases .now) (s .args .c .0) (o .of-count .ensures) (i .ink .given .1)
+
+abbrev ink-at : tie.After-read → tie.After-ink
+ink-at r = r .before .before .before .before
+
+abbrev enter-read : tie.After-read → tie.Start
+enter-read r = enter (ink-at r .before .before .before)
+
+said : (r : tie.After-read) →
+    let s = enter-read r in
+    r .read .result ≡ CountRead.Is (record { 0 = value (s .args .bases .now) (look (s .args .page .now) (c2 (form s))) })
+said r =
+    let s = enter-read r in
+    r .read .ensures
+    ∙ read-count (form s) (s .args .records .now) (s .args .page .now) (s .args .p .writer) (s .pre .0) _
+    (r .before .before .count-steps .ensures)
+
+enum-known-last : tie.Need-enum-known-last
+enum-known-last c = search needs
+
+enum-told-2 : tie.Need-enum-told-2
+enum-told-2 c = search needs
+
+refused-requires-3 : tie.Need-refused-requires-3
+refused-requires-3 c κs = search needs
+
+returns-3 : tie.Need-returns-3
+returns-3 c =
+    let r = c .before .before .before in
+    let i = ink-at r in
+    let k = i .before .before .before in
+    let s = enter k in
+    answered (form s) (s .args .page .now) _ (c .refused3 .ensures)
+    (count-unread (form s) (s .args .records .now) (s .args .page .now) (s .args .p .writer) (s .args .c) (s .pre .0)
+    (k .if1 .left) (low i) (said r) (c .before .enum-told2 .given .1))
+    (s .pre .1)
+
+refused-requires-4 : tie.Need-refused-requires-4
+refused-requires-4 c κs = search needs
+
+returns-4 : tie.Need-returns-4
+returns-4 c =
+    let t = c .before in
+    let l = t .before .before .before .before in
+    let r = l .before .before in
+    let i = ink-at r in
+    let k = i .before .before .before in
+    let s = enter k in
+    answered (form s) (s .args .page .now) _ (c .refused4 .ensures)
+    (count-falls (form s) (s .args .records .now) (s .args .page .now) (s .args .p .writer) (s .args .c) (s .pre .0)
+    (k .if1 .left) (low i) (said r) (l .last .given .1) (t .if2 .taken))
+    (s .pre .1)
+
+begun-requires : tie.Need-begun-requires
+begun-requires c κs = search needs
+
+returns-5 : tie.Need-returns-5
+returns-5 c =
+    let t = c .before in
+    let l = t .before .before .before .before in
+    let r = l .before .before in
+    let i = ink-at r in
+    let o = i .before .before in
+    let k = o .before in
+    let s = enter k in
+    answered (form s) (s .args .page .now) _ (c .begun .ensures)
+    (count-begins (form s) (s .args .records .now) (s .args .page .now) (s .args .p .writer) (s .args .c) (s .pre .0)
+    (k .if1 .left) (low i) (said r) (l .last .given .1) (t .if2 .left))
+    (λ _ _.
+    ink-bytes (s .args .bases .now) (s .args .c .0) (o .of-count .ensures) (good-counts (form s) (s .pre .0 .good))
+    (i .ink .given .1)
+    ∙ sym (count-ink-of (form s) _ refl))
+
+pub begin-count-spec : {M : Type 1} → statement M
+begin-count-spec =
+    tie.close
+    (tie.spec
+    refused-requires
+    returns
+    of-count-requires
+    enum-known-ink
+    enum-told
+    refused-requires-2
+    returns-2
+    count-steps-requires
+    sub-read
+    part-read-start
+    part-read-end
+    read-requires
+    enum-known-last
+    enum-told-2
+    refused-requires-3
+    returns-3
+    refused-requires-4
+    returns-4
+    begun-requires
+    returns-5)

@@ -1,0 +1,116 @@
+// Where a run stands between two commands.
+ghost use mathlib.Core.Path.{_≡_};
+ghost use mathlib.Core.List.{List};
+ghost use Prim.Native.Nat.{ℕ, _+_, _<_};
+ghost use Rattle.protocol.specs.declared.Outcome.{Outcome};
+ghost use Rattle.protocol.specs.declared.Outcome.the-variants.{Nothing};
+ghost use Rattle.page.specs.declared.Answer.the-variants.{Done};
+ghost use Rattle.page.specs.Loop.{firstStanding, going, stopped as stoppedOf, entered, enterOf, ranAs};
+use crate::Answer;
+use crate::Ran;
+use protocol::Ending;
+use protocol::Refusal;
+use protocol::Writer;
+
+pub(crate) enum Verdict {
+    Goes,
+    Stops(Refusal),
+}
+
+// Bytes of the commands taken, commands carried out, bytes written into the log.
+pub(crate) struct Standing {
+    pub(crate) verdict: Verdict,
+    pub(crate) taken: usize,
+    pub(crate) done: usize,
+    pub(crate) written: usize,
+}
+
+// Before the first command.
+pub(crate) fn first() -> Standing
+    ensures { λ r. ⌜ r ≡ firstStanding ⌝ }
+{
+    Standing {
+        verdict: Verdict::Goes,
+        taken: 0,
+        done: 0,
+        written: 0,
+    }
+}
+
+// Is there a command to carry out, of so many bytes?
+pub(crate) fn goes(s: Standing, bytes: usize) -> bool
+    ensures { λ r. ⌜ r ≡ going s bytes ⌝ }
+{
+    let v = s.verdict;
+    match v {
+        Verdict::Goes => s.taken < bytes,
+        Verdict::Stops(_) => false,
+    }
+}
+
+// After a command that was refused.
+pub(crate) fn stopped(s: Standing, why: Refusal) -> Standing
+    ensures { λ r. ⌜ r ≡ stoppedOf s why ⌝ }
+{
+    Standing {
+        verdict: Verdict::Stops(why),
+        taken: s.taken,
+        done: s.done,
+        written: s.written,
+    }
+}
+
+// After a command that was carried out, up to the next one.
+fn onward(s: Standing, next: usize, written: usize) -> Standing
+    requires { ⌜ s .done < 18446744073709551615 ⌝ }
+    ensures { λ r. ⌜ r ≡ record { verdict = Verdict.Goes; taken = next; done = s .done + 1; written = written } ⌝ }
+{
+    Standing {
+        verdict: Verdict::Goes,
+        taken: next,
+        done: s.done + 1,
+        written: written,
+    }
+}
+
+// After a reader's command, with its entry in the log.
+pub(crate) fn enter(log: &mut [u8], s: Standing, next: usize, a: Answer) -> Standing
+    requires { ⌜ s .done < 18446744073709551615 ⌝ }
+    ensures { λ r. ⌜ entered r (now (log .exit)) ≡ enterOf (now (log .entry)) s next a ⌝ }
+{
+    match a {
+        Answer::Refused(why) => stopped(s, why),
+        Answer::Done(o) => {
+            let end = codec::put(log, s.written, o);
+            onward(s, next, end)
+        }
+    }
+}
+
+// After a command of the writer. It makes no entry, so the log is not looked at.
+pub(crate) fn wrote(s: Standing, next: usize, a: Answer) -> Standing
+    requires { ⌜ (s .done < 18446744073709551615) × ((o : Outcome) → a ≡ Done o → o ≡ Nothing) ⌝ }
+    ensures { λ r. ⌜ ((log : List ℕ) → entered r log ≡ enterOf log s next a) ⌝ }
+{
+    match a {
+        Answer::Refused(why) => stopped(s, why),
+        Answer::Done(_) => onward(s, next, s.written),
+    }
+}
+
+pub(crate) fn ran_of(s: Standing, w: Writer) -> Ran
+    ensures { λ r. ⌜ r ≡ ranAs s w ⌝ }
+{
+    let v = s.verdict;
+    let e = match v {
+        Verdict::Goes => Ending::Finished,
+        Verdict::Stops(why) => Ending::Refused(why),
+    };
+    Ran {
+        done: s.done,
+        taken: s.taken,
+        written: s.written,
+        ending: e,
+        writer: w,
+    }
+}

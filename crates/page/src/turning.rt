@@ -1,0 +1,136 @@
+// One turn of a run: a decoded command, and its entry in the log.
+ghost use mathlib.Core.Path.{_≡_};
+ghost use Prim.Native.Nat.{_≤_, _<_};
+ghost use lib.ListN.{length};
+ghost use Rattle.protocol.specs.Form.{formOf};
+ghost use Rattle.protocol.specs.Memory.{readerOf};
+ghost use Rattle.page.specs.Pen.{Knows};
+ghost use Rattle.page.specs.Writes.{WriteReady};
+ghost use Rattle.page.specs.Loop.{whoseIn, oneTurnBy, readTurn, TurnReady, penTurnBy, writeTurn, NoReaderIn};
+use crate::looping;
+use crate::looping::Standing;
+use crate::pen::Pen;
+use crate::reading;
+use crate::writing;
+use codec::Decoded;
+use protocol::Command;
+use protocol::Format;
+use protocol::Refusal;
+use protocol::Stage;
+
+pub(crate) struct ReadTurn {
+    pub(crate) standing: Standing,
+    pub(crate) stage: Stage,
+}
+
+pub(crate) struct WriteTurn {
+    pub(crate) standing: Standing,
+    pub(crate) pen: Pen,
+}
+
+fn wide(x: u8) -> usize
+    ensures { λ r. ⌜ r ≡ x ⌝ }
+{
+    x as usize
+}
+
+// The reader of a command, or `none` for the writer's, and for what is no command.
+pub(crate) fn whose(d: Decoded, none: usize) -> usize
+    ensures { λ r. ⌜ r ≡ whoseIn d none ⌝ }
+{
+    let Decoded::Is(x, _) = d else {
+        return none;
+    };
+    match x {
+        Command::WriteCount(_) => none,
+        Command::WriteRecord(_) => none,
+        Command::WriterStep => none,
+        Command::BeginCountRead(who) => wide(who),
+        Command::BeginRecordRead(who, _) => wide(who),
+        Command::ReaderStep(who) => wide(who),
+        Command::Cancel(who) => wide(who),
+    }
+}
+
+// The same stage, field by field: its padding would be copied at each command.
+fn fields(s: Stage) -> Stage
+    ensures { λ r. ⌜ r ≡ s ⌝ }
+{
+    Stage {
+        kind: s.kind,
+        allowed: s.allowed,
+        finished: s.finished,
+        steps: s.steps,
+    }
+}
+
+// A turn of reader i.
+pub(crate) fn read_turn(
+    i: usize,
+    stage: Stage,
+    digits: &mut [u8; 16],
+    format: Format,
+    bases: &[u16],
+    page: &mut [u8],
+    buffers: &mut [u8],
+    log: &mut [u8],
+    d: Decoded,
+    s: Standing,
+) -> ReadTurn
+    requires { ⌜ TurnReady (formOf (now bases) format) (now page) (readerOf stage (now digits)) (now buffers) i d
+        × (s .written ≤ length (now log))
+        × (s .done < 18446744073709551615) ⌝ }
+    ensures { λ r. ⌜ (now (page .exit) ≡ now (page .entry))
+        × (oneTurnBy r (now (digits .exit)) (now (buffers .exit)) (now (log .exit))
+        ≡ readTurn (formOf (now (bases .entry)) format) (now (page .entry)) i (readerOf stage (now (digits .entry)))
+        (now (buffers .entry)) (now (log .entry)) d s) ⌝ }
+{
+    let from = fields(stage);
+    let Decoded::Is(x, next) = d else {
+        return ReadTurn {
+            standing: looping::stopped(s, Refusal::UnknownCommand),
+            stage: from,
+        };
+    };
+    let room = log.len() - s.written;
+    let t = reading::read_at(i, from, digits, format, bases, page, buffers, x, room);
+    let a = t.answer;
+    let after = t.stage;
+    ReadTurn {
+        standing: looping::enter(log, s, next, a),
+        stage: after,
+    }
+}
+
+// A turn of the writer, or a command that is none.
+pub(crate) fn write_turn(
+    format: Format,
+    bases: &[u16],
+    page: &mut [u8],
+    p: Pen,
+    records: &[u8],
+    d: Decoded,
+    s: Standing,
+) -> WriteTurn
+    requires { ⌜ WriteReady (formOf (now bases) format) (now records) (now page) (p .writer)
+        × Knows (formOf (now bases) format) p
+        × NoReaderIn (formOf (now bases) format) d
+        × (s .done < 18446744073709551615) ⌝ }
+    ensures { λ r. ⌜ (penTurnBy r (now (page .exit))
+        ≡ writeTurn (formOf (now (bases .entry)) format) (now (records .entry)) (now (page .entry)) (p .writer) d s)
+        × Knows (formOf (now (bases .entry)) format) (r .pen) ⌝ }
+{
+    let Decoded::Is(x, next) = d else {
+        return WriteTurn {
+            standing: looping::stopped(s, Refusal::UnknownCommand),
+            pen: p,
+        };
+    };
+    let c = writing::write(format, bases, page, p, records, x);
+    let a = c.answer;
+    let after = c.pen;
+    WriteTurn {
+        standing: looping::wrote(s, next, a),
+        pen: after,
+    }
+}
