@@ -1,12 +1,12 @@
 /* Lagumtay: a shared page with one writer and up to 16 readers, read without locks. The archive is `liblagumtay.a`.
  *
- * Every function is total: for any arguments that keep the rules below it ends, touches nothing but what it is lent,
- * and answers 0 or the number of one refusal. What it answers and what it leaves is an equation with definitions that
- * can be read in the repository; the comments name them by their path.
+ * The rules for a caller: calls on one page are made one after another, and nobody else touches what is lent during
+ * one; each pointer goes with its length in elements, and is aligned for its type; what is lent to be written overlaps
+ * nothing else that is lent. A pointer with length 0 is not followed.
  *
- * The rules for a caller: each pointer goes with its length in elements, and is aligned for its type; what is lent to
- * be written overlaps nothing else that is lent; nobody else touches what is lent during a call. A pointer with
- * length 0 is not followed.
+ * Every function is total: for any arguments that keep these rules it ends, touches nothing but what it is lent, and
+ * answers 0 or the number of one refusal. What it answers and what it leaves is an equation with definitions that can
+ * be read in the repository; the comments name them by their path.
  */
 #ifndef LAGUMTAY_H
 #define LAGUMTAY_H
@@ -221,7 +221,8 @@ uint8_t lagumtay_unpack(lagumtay_reader *readers, size_t readers_len, const uint
  * its last step. Demand.antt, `Span`. */
 
 /* An accepted record is whole: the bytes in the buffer, right after the step that accepted it, are those of one
- * write, and the version is the number of that write, 0 for the opening. Demand.antt, `Reports`. */
+ * write, and the version is the number of that write, 0 for the opening. Take them before that reader steps again: the
+ * steps of its next record read write the same buffer. Demand.antt, `Reports`. */
 
 /* Whole record writes and accepted record reads are linearizable: they stand in one order, each at a point between its
  * first and its last step, and a read has the record of the last write before it. Demand.antt, `Linearization`. */

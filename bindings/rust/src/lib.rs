@@ -2,6 +2,9 @@
 //! is proved: what each answers and leaves is an equation with the definitions under `crates/protocol/specs` of the
 //! repository.
 //!
+//! Calls on one page are made one after another, which `&mut self` sees to. An accepted record is taken from the
+//! reader's buffer before that reader steps again.
+//!
 //! All is done in single steps, so that a schedule decides who moves when: a write is begun by a [`Command`] and each
 //! of its digits moved by another; the same for reads. [`Page::run`] carries out a list of commands and tells in a log
 //! how reads ended; [`Page::step`] carries out one command and tells it at once. A [`Page`] owns its memory; [`raw`] is

@@ -13,14 +13,14 @@ use protocol::Format;
 use protocol::Reader;
 use protocol::Stage;
 
-// The sum of eight digits from a place on.
-fn sum_of_eight(digits: &[u8], at: usize) -> u16
-    requires { ⌜ at + 8 ≤ length (now digits) ⌝ }
-    ensures { λ r. ⌜ r ≡ sumOf (now (digits .entry)) at 8 ⌝ }
+// The sum of n digits from a place on.
+fn sum(digits: &[u8], at: usize, n: usize) -> u16
+    requires { ⌜ (n ≤ 16) × (at + n ≤ length (now digits)) ⌝ }
+    ensures { λ r. ⌜ r ≡ sumOf (now (digits .entry)) at n ⌝ }
 {
     let mut sum: u16 = 0;
     let mut p: usize = 0;
-    while p < 8 {
+    while p < n {
         sum = sum + digits[at + p] as u16;
         p = p + 1;
     }
@@ -34,7 +34,7 @@ fn eight_valid(bases: &[u16], digits: &[u8], at: usize, low: usize, high: usize)
         (at + 8 ≤ length (now digits)) ⌝ }
     ensures { λ r. ⌜ r ≡ eightOk (now (bases .entry)) (now (digits .entry)) at low high ⌝ }
 {
-    let mut left = sum_of_eight(digits, at);
+    let mut left = sum(digits, at, 8);
     let mut p = low;
     while p < high {
         let d = digits[at + p] as u16;
@@ -66,6 +66,14 @@ fn digits_valid(bases: &[u16], digits: &[u8], g: usize) -> bool
     eight_valid(bases, digits, 8, w - (g - w), w)
 }
 
+// Is none of the sixteen gathered? Their sum tells: so none of them is looked at by itself.
+fn none_gathered(bases: &[u16], digits: &[u8]) -> bool
+    requires { ⌜ (length (now bases) ≤ 8) × (length (now digits) ≡ 16) ⌝ }
+    ensures { λ r. ⌜ r ≡ gatheredOk (now (bases .entry)) (now (digits .entry)) 0 ⌝ }
+{
+    sum(digits, 0, 16) == 0
+}
+
 // A record read.
 fn attempt_valid(format: Format, bases: &[u16], s: Stage, digits: &[u8]) -> bool
     requires { ⌜ (small (formOf (now bases) format) ≡ true) × (length (now digits) ≡ 16) × (s .kind ≡ 2) ⌝ }
@@ -93,7 +101,7 @@ fn count_valid(format: Format, bases: &[u16], s: Stage, digits: &[u8]) -> bool
         if k != 0 {
             return false;
         }
-        return digits_valid(bases, digits, 0);
+        return none_gathered(bases, digits);
     }
     if s.kind != 1 || layout::count_steps(format, bases) <= k {
         return false;

@@ -2,7 +2,7 @@
 // callers come through `counts`, `versions` and `copies`.
 ghost use mathlib.Core.Path.{_≡_};
 ghost use mathlib.Core.Bool.{true};
-ghost use Prim.Native.Nat.{_≤_};
+ghost use Prim.Native.Nat.{_/_, _%_, _≤_, _<_};
 ghost use lib.Dec.{ltb};
 ghost use lib.ListN.{length};
 ghost use Rattle.radix.specs.Digits.{product, value, digits, valid};
@@ -81,6 +81,27 @@ pub(crate) fn digit(bases: &[u16], k: usize, x: u64) -> Digit
     Digit::Is((left % base) as u8)
 }
 
+// A byte is taken off by a shift: only other bases cost a division.
+fn quotient(x: u64, base: u64) -> u64
+    requires { ⌜ 0 < base ⌝ }
+    ensures { λ r. ⌜ r ≡ x / base ⌝ }
+{
+    if base == 256 {
+        return x / 256;
+    }
+    x / base
+}
+
+fn remainder(x: u64, base: u64) -> u64
+    requires { ⌜ 0 < base ⌝ }
+    ensures { λ r. ⌜ r ≡ x % base ⌝ }
+{
+    if base == 256 {
+        return x % 256;
+    }
+    x % base
+}
+
 // The digits of a number that fits, from the right.
 fn put_digits(bases: &[u16], x: u64, out: &mut [u8])
     requires { ⌜ (goodBases (now bases) ≡ true) × (length (now out) ≡ length (now bases)) ⌝ }
@@ -91,8 +112,8 @@ fn put_digits(bases: &[u16], x: u64, out: &mut [u8])
     while 0 < i {
         i = i - 1;
         let base = wide(bases[i]);
-        out[i] = (left % base) as u8;
-        left = left / base;
+        out[i] = remainder(left, base) as u8;
+        left = quotient(left, base);
     }
 }
 

@@ -1,5 +1,5 @@
 -- Digits by their sum: all of them are zero exactly if it is 0.
-use mathlib.Core.Path.{_≡_, refl, ap, _∙_}
+use mathlib.Core.Path.{_≡_, refl, sym, ap, _∙_}
 use mathlib.Core.List.{List}
 use mathlib.Core.Bool.{Bool, true, false, _&&_, cond}
 use Prim.Native.Nat.{ℕ, zero, suc, _+_, _-_, _≤_, _<_}
@@ -46,6 +46,10 @@ module _ (l : List ℕ) where
       let e : suc m + n ≡ suc (m + n) = omega arith in
       let f : suc at + m ≡ at + suc m = omega arith in
       rw (e, sum-split (suc at) m n, f) (omega arith)
+
+  -- two parts are zero exactly if their sum is
+  pub zero-sums : (at m n : ℕ) → eqb (sumOf l at m) 0 && eqb (sumOf l (at + m) n) 0 ≡ eqb (sumOf l at (m + n)) 0
+  zero-sums at m n = both-zero (sumOf l at m) (sumOf l (at + m) n) ∙ ap (λ k. eqb k 0) (sym (sum-split at m n))
 
   zero-sum : (at a n : ℕ) → every (λ p. eqb (getD l (at + p) 0) 0) (range a n) ≡ eqb (sumOf l (at + a) n) 0
   unfolding sumOf

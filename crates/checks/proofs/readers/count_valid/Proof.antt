@@ -44,11 +44,9 @@ returns-2 c =
     none-steps _ (s .pre .0) _ _ (s .pre .1) (k .if3 .taken) (e .before .before .if1 .left) (finished-here e)
     (c .if4 .taken)
 
-digits-valid-requires : tie.Need-digits-valid-requires
-digits-valid-requires c κs =
-    let s = start₂ (c .before .before .before) in
-    let b = small-bounds _ (s .pre .0) in
-    (b .places, s .pre .1, omega arith)
+none-gathered-requires : tie.Need-none-gathered-requires
+none-gathered-requires c κs =
+    let s = start₂ (c .before .before .before) in (small-bounds _ (s .pre .0) .places, s .pre .1)
 
 returns-3 : tie.Need-returns-3
 returns-3 c =
@@ -56,7 +54,7 @@ returns-3 c =
     let k = z .before in
     let e = k .before .before in
     let s = start₂ e in
-    c .digits-valid .ensures
+    c .none-gathered .ensures
     ∙ none-fine _ (s .pre .0) _ _ (s .pre .1) (k .if3 .taken) (e .before .before .if1 .left) (finished-here e)
     (z .if4 .left)
 
@@ -80,8 +78,8 @@ within : (c : tie.Else6) →
     s .args .s .steps < countSteps (formOf (s .args .bases .now) (s .args .format))
 within c = leb-false _ _ (rw (c .before .count-steps .ensures) at (c .if6 .left))
 
-digits-valid-requires-2 : tie.Need-digits-valid-requires-2
-digits-valid-requires-2 c κs =
+digits-valid-requires : tie.Need-digits-valid-requires
+digits-valid-requires c κs =
     let s = start₂ (c .before .before .before .before .before .before) in
     let b = small-bounds _ (s .pre .0) in
     (b .places, s .pre .1, omega (arith, within c))
@@ -92,7 +90,7 @@ returns-5 c =
     let o = i .before .before in
     let e = o .before .before .before .before in
     let s = start₂ e in
-    c .digits-valid2 .ensures
+    c .digits-valid .ensures
     ∙ count-fine _ (s .pre .0) _ _ (s .pre .1) (o .if5 .left) (e .before .before .if1 .left) (finished-here e) (within i)
 
 pub count-valid-spec : {M : Type 1} → statement M
@@ -101,9 +99,9 @@ count-valid-spec =
     (tie.spec
     returns
     returns-2
-    digits-valid-requires
+    none-gathered-requires
     returns-3
     count-steps-requires
     returns-4
-    digits-valid-requires-2
+    digits-valid-requires
     returns-5)

@@ -24,15 +24,15 @@ Inv-loop bases digits at low high left₀ p₀ left p =
 abbrev μ-loop : tie.MeasureT-loop
 μ-loop bases digits at low high left₀ p₀ left p = high - p
 
-sum-of-eight-requires : tie.Need-sum-of-eight-requires Inv-loop μ-loop
-sum-of-eight-requires c κs = omega arith
+sum-requires : tie.Need-sum-requires Inv-loop μ-loop
+sum-requires c κs = omega arith
 
 loop-holds : tie.Need-loop-holds Inv-loop μ-loop
 loop-holds c =
     let a = c .before .before .before .args in
     let ordered : a .low ≤ a .high = omega arith in
     let fits : a .high ≤ 8 = omega arith in (
-      c .sum-of-eight .ensures ∙ sum-outside (a .digits .now) (a .at) (a .low) (a .high) 8 ordered fits,
+      c .sum .ensures ∙ sum-outside (a .digits .now) (a .at) (a .low) (a .high) 8 ordered fits,
       sym (eight-parts (a .bases .now) (a .digits .now) (a .at) (a .low) (a .high) ordered fits),
     )
 
@@ -107,7 +107,7 @@ eight-valid-spec =
     (tie.spec
     Inv-loop
     μ-loop
-    sum-of-eight-requires
+    sum-requires
     loop-holds
     add-d
     shared-slice-read-d

@@ -55,31 +55,34 @@ base-here c =
     let h : i < length b = omega arith in
     rw (c .wide .ensures) (base-pos b i (s .pre .0) h, base-most b i (s .pre .0) h)
 
-rem-out : tie.Need-rem-out Inv-loop μ-loop
-rem-out c = base-here c .0
+remainder-requires : tie.Need-remainder-requires Inv-loop μ-loop
+remainder-requires c κs = base-here c .0
 
 cast-out : tie.Need-cast-out Inv-loop μ-loop
 cast-out c =
-    let h = base-here c in
-    record { fits = omega (arith, mod-lt (c .before .before .before .loop .left) (h .0)) }
+    let w = c .before in
+    let h = base-here w in
+    record { fits = omega (arith, mod-lt (w .before .before .before .loop .left) (h .0), c .remainder .ensures) }
 
 slice-write-out : tie.Need-slice-write-out Inv-loop μ-loop
 slice-write-out c = search needs
 
-div-left : tie.Need-div-left Inv-loop μ-loop
-div-left c = base-here c .0
+quotient-requires : tie.Need-quotient-requires Inv-loop μ-loop
+quotient-requires c κs = base-here (c .before) .0
 
 loop-less : tie.Need-loop-less Inv-loop μ-loop
 loop-less c = search needs
 
 loop-again : tie.Need-loop-again Inv-loop μ-loop
 loop-again c =
-    let t = c .before .before in
+    let r = c .before in
+    let w = r .before in
+    let t = w .before .before in
     let v = t .before .loop .inv in (
       search needs,
       rw length-set (v .1),
-      rw (c .wide .ensures, v .2) (left-on _ _ _ (t .loop-test .taken) (v .0)),
-      rw (c .wide .ensures, v .2) (digits-on _ _ _ (t .loop-test .taken) (v .0) _ (omega arith) (v .3)),
+      rw (c .quotient .ensures, w .wide .ensures, v .2) (left-on _ _ _ (t .loop-test .taken) (v .0)),
+      rw (r .remainder .ensures, w .wide .ensures, v .2) (digits-on _ _ _ (t .loop-test .taken) (v .0) _ (omega arith) (v .3)),
     )
 
 same-length : tie.Need-same-length Inv-loop μ-loop
@@ -101,10 +104,10 @@ put-digits-spec =
     mul-wide
     shared-slice-read-wide
     wide-requires
-    rem-out
+    remainder-requires
     cast-out
     slice-write-out
-    div-left
+    quotient-requires
     loop-less
     loop-again
     same-length
