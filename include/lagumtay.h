@@ -215,7 +215,7 @@ uint8_t lagumtay_unpack(lagumtay_reader *readers, size_t readers_len, const uint
  * two calls at once, and records changed only as said at lagumtay_run: a record write that is begun from one record and
  * ended from another is read as a mixture of both. All of it is one theorem: crates/protocol/specs/Demand.antt,
  * `GeneralClaim`; over one list of records throughout, `Claim`. A step counts as the run of its one command with a log
- * that has room: crates/page/specs/Calls.antt, `CarriesStep`. */
+ * that has room: crates/page/specs/Calls.antt, `CarriesStep`, in the contract of lagumtay_step. */
 
 /* A count shown lies between the last count fully written before the read's first step and the last one begun before
  * its last step. Demand.antt, `Span`. */

@@ -1,6 +1,7 @@
 -- What an exported call answers, and what was lent as it leaves it: the protocol's own opening.
 use mathlib.Core.List.{List}
 use Prim.Native.Nat.{ℕ}
+use Rattle.radix.specs.declared.Count.{Count}
 use Rattle.protocol.specs.Form.{Form}
 use Rattle.protocol.specs.Memory.{Memory}
 use Rattle.protocol.specs.Outcome.{endingNumber}
@@ -16,8 +17,8 @@ pub record Left : Type 0 where
 abbrev pub left : ℕ → Memory → Left
 left r L = record { refusal = r; memory = L }
 
-unfoldable pub openCall : Form → Memory → (count : ℕ) → (first : List ℕ) → Left
-openCall F L c r = let o = openPage F L (record { 0 = c }) r in left (endingNumber (o .ending)) (o .memory)
+unfoldable pub openCall : Form → Memory → Count → (first : List ℕ) → Left
+openCall F L c r = let o = openPage F L c r in left (endingNumber (o .ending)) (o .memory)
 
 -- the step of its command
 unfoldable pub cancelCall : Form → (records : List ℕ) → Memory → (who : ℕ) → Left

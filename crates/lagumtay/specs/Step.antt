@@ -3,6 +3,8 @@ use mathlib.Core.List.{List}
 use mathlib.Core.Bool.{Bool, cond}
 use Prim.Native.Nat.{ℕ}
 use lib.Dec.{eqb}
+use Rattle.radix.specs.declared.Count.{Count}
+use Rattle.radix.specs.declared.Version.{Version}
 use Rattle.protocol.specs.Form.{Form, between}
 use Rattle.protocol.specs.Memory.{Memory}
 use Rattle.protocol.specs.Outcome.{refusalNumber}
@@ -44,15 +46,14 @@ commandOf o =
     (cond (eqb (o .kind) 6) (ReaderStep (o .reader))
     (cond (eqb (o .kind) 7) (Cancel (o .reader)) (ReaderStep 255)))))))
 
-abbrev pub tell : (kind reader attempts version count : ℕ) → Told
-tell k r a v c =
-    record { kind = k; reader = r; attempts = a; version = record { 0 = v }; count = record { 0 = c } }
+abbrev pub tell : (kind reader attempts : ℕ) → Version → Count → Told
+tell k r a v c = record { kind = k; reader = r; attempts = a; version = v; count = c }
 
 unfoldable pub toldOf : Outcome → Told
-toldOf Nothing = tell 0 0 0 0 0
-toldOf (Shown r c) = tell 1 r 0 0 (c .0)
-toldOf (Accepted r k v) = tell 2 r k (v .0) 0
-toldOf (GaveUp r k) = tell 3 r k 0 0
+toldOf Nothing = tell 0 0 0 (record { 0 = 0 }) (record { 0 = 0 })
+toldOf (Shown r c) = tell 1 r 0 (record { 0 = 0 }) c
+toldOf (Accepted r k v) = tell 2 r k v (record { 0 = 0 })
+toldOf (GaveUp r k) = tell 3 r k (record { 0 = 0 }) (record { 0 = 0 })
 
 -- as the code has it: of an unknown kind, that there is no such reader means that the command is unknown
 unfoldable pub numberOf : Order → Refusal → ℕ

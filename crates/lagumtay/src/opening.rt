@@ -18,7 +18,7 @@ pub extern "C" fn lagumtay_open(
     writer: &mut Writer,
     readers: &mut [Reader],
     buffers: &mut [u8],
-    count: u64,
+    count: Count,
     record: &[u8],
 ) -> u8
     ensures { λ r. ⌜ left r
@@ -29,8 +29,7 @@ pub extern "C" fn lagumtay_open(
 {
     let f = *format;
     let w = *writer;
-    let first = Count(count);
-    let o = page::open(readers, f, bases, page, w, buffers, first, record);
+    let o = page::open(readers, f, bases, page, w, buffers, count, record);
     *writer = o.writer;
     let e = o.ending;
     protocol::ending_number(e)

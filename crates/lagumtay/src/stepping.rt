@@ -1,7 +1,12 @@
 // One command over a caller's memory.
 ghost use mathlib.Core.Path.{_≡_};
+ghost use mathlib.Core.Bool.{true};
+ghost use mathlib.Core.List.{List};
+ghost use Prim.Native.Nat.{ℕ, _≤_};
+ghost use lib.ListN.{length};
 ghost use Rattle.protocol.specs.Form.{formOf};
 ghost use Rattle.page.specs.Carry.{lent};
+ghost use Rattle.page.specs.Calls.{CarriesStep};
 ghost use Rattle.lagumtay.specs.Step.{known as isKnown, commandOf, toldOf, numberOf, endedOf, steppedLeft, stepCall};
 use page::Answer;
 use page::Stepped;
@@ -157,6 +162,10 @@ pub extern "C" fn lagumtay_step(
         ≡ stepCall (formOf (now (bases .entry)) (now (format .entry))) (now (records .entry))
         (lent (now (page .entry)) (now (writer .entry)) (now (readers .entry)) (now (buffers .entry)))
         (now (order .entry)) ⌝ }
+    ensures { λ r. ⌜ (isKnown (now (order .entry)) ≡ true → (log : List ℕ) → 10 ≤ length log → CarriesStep
+        (formOf (now (bases .entry)) (now (format .entry))) (now (records .entry))
+        (lent (now (page .entry)) (now (writer .entry)) (now (readers .entry)) (now (buffers .entry)))
+        (commandOf (now (order .entry))) log) ⌝ }
 {
     let f = *format;
     let w = *writer;

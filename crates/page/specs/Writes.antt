@@ -58,10 +58,10 @@ abbrev pub put : (position digit : ℕ) → Put
 put p d = record { position = p; digit = d }
 
 abbrev pub countPut : Form → ℕ → ℕ → Put
-countPut F c k = put (getD (countOrder F) k 0) (getD (countDigits F c) k 0)
+countPut F c k = put (getD (countOrder F) k 0) (getD (countDigits F (record { 0 = c })) k 0)
 
 abbrev pub recordPut : Form → List ℕ → (v index k : ℕ) → Put
-recordPut F S v i k = put (getD (recordOrder F) k 0) (getD (recordDigits F v (recordAt F S i)) k 0)
+recordPut F S v i k = put (getD (recordOrder F) k 0) (getD (recordDigits F (record { 0 = v }) (recordAt F S i)) k 0)
 
 -- the lent writer after one more of so many steps
 unfoldable pub advanced : ℕ → Writer → Writer

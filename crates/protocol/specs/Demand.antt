@@ -32,6 +32,7 @@ use Rattle.protocol.specs.Run.{openPage, Event, Run, Ran, RunOver, runs,
 use Rattle.protocol.specs.History.{
   Write,
   Placed,
+  openingPlace,
   placed,
   Pending,
   noWrite,
@@ -130,15 +131,15 @@ pub record Linearized : Type 0 where
 abbrev pub Has : List Linearized → Act → Type 0
 Has l a = Any (λ b. b .act ≡ a) l
 
--- the place of the last write, else 0
+-- the place of the last write, else the opening's
 abbrev pub lastWrite : List Act → Place
-lastWrite [] = record { 0 = 0 }
+lastWrite [] = openingPlace
 lastWrite (wrote i ∷ l) = i
 lastWrite (took u ∷ l) = lastWrite l
 
--- the record of a place; the opening's has place 0
+-- the record of a place
 abbrev pub recordOf : List ℕ → List (Write Placed) → Place → List ℕ
-recordOf r ps i = latest (λ p. eqb (p .what .place .0) (i .0)) (placed 0 r) ps .content
+recordOf r ps i = latest (λ p. eqb (p .what .place .0) (i .0)) (placed openingPlace r) ps .content
 
 abbrev pub Within : ℕ → List ℕ → Type 0
 Within t steps = (firstOf steps ≤ t) × (t ≤ lastOf steps)

@@ -3,6 +3,8 @@ use mathlib.Core.Path.{_≡_}
 use mathlib.Core.List.{List, [], _∷_}
 use Prim.Native.Nat.{ℕ, _-_, _^_}
 use lib.ListN.{replicate}
+use Rattle.radix.specs.declared.Count.{Count}
+use Rattle.radix.specs.declared.Version.{Version}
 use Rattle.radix.specs.Digits.{digits}
 use Rattle.radix.specs.Copies.{compare}
 use Rattle.radix.specs.Answers.{digitOf}
@@ -33,39 +35,39 @@ single = withBases (10 ∷ [])
 abbrev pub countEnd : Form → List ℕ → List ℕ → Gathered
 countEnd F a b = endCount F 0 (0 ∷ []) a b (compare a b)
 
--- it shows the count x
-abbrev pub ShowsCount : Form → List ℕ → List ℕ → ℕ → Type 0
-ShowsCount F a b x = countEnd F a b ≡ shows 0 (0 ∷ []) x
+-- it shows the count c
+abbrev pub ShowsCount : Form → List ℕ → List ℕ → Count → Type 0
+ShowsCount F a b c = countEnd F a b ≡ shows 0 (0 ∷ []) c
 
 -- the writer rests, and the versions stand at v
-abbrev pub versionsAt : ℕ → State
+abbrev pub versionsAt : Version → State
 versionsAt v = record {
-  page = 0 ∷ 0 ∷ v ∷ 0 ∷ v ∷ [];
+  page = 0 ∷ 0 ∷ v .0 ∷ 0 ∷ v .0 ∷ [];
   writing = resting;
   readings = idle ∷ [];
   buffers = (0 ∷ []) ∷ [];
 }
 
 pub record Table : Type 0 where
-  pub turning : ShowsCount decimal (0 ∷ 0 ∷ 0 ∷ []) (1 ∷ 0 ∷ 0 ∷ []) 100
-  pub nines : ShowsCount decimal (0 ∷ 9 ∷ 9 ∷ []) (1 ∷ 9 ∷ 9 ∷ []) 100
+  pub turning : ShowsCount decimal (0 ∷ 0 ∷ 0 ∷ []) (1 ∷ 0 ∷ 0 ∷ []) (record { 0 = 100 })
+  pub nines : ShowsCount decimal (0 ∷ 9 ∷ 9 ∷ []) (1 ∷ 9 ∷ 9 ∷ []) (record { 0 = 100 })
   -- 11:57 and 12:04 show 12:00; 11:59; the equal ones themselves
-  pub hour : ShowsCount clock (11 ∷ 57 ∷ []) (12 ∷ 4 ∷ []) 720
-  pub minute : ShowsCount clock (11 ∷ 57 ∷ []) (11 ∷ 59 ∷ []) 719
-  pub equal : ShowsCount clock (11 ∷ 57 ∷ []) (11 ∷ 57 ∷ []) 717
+  pub hour : ShowsCount clock (11 ∷ 57 ∷ []) (12 ∷ 4 ∷ []) (record { 0 = 720 })
+  pub minute : ShowsCount clock (11 ∷ 57 ∷ []) (11 ∷ 59 ∷ []) (record { 0 = 719 })
+  pub equal : ShowsCount clock (11 ∷ 57 ∷ []) (11 ∷ 57 ∷ []) (record { 0 = 717 })
   pub crossed :
       (countEnd clock (12 ∷ 4 ∷ []) (11 ∷ 57 ∷ []) ≡ Gathered.refused CopiesCrossed)
       × (refusalNumber CopiesCrossed ≡ 10)
-  pub one-place : ShowsCount single (5 ∷ []) (7 ∷ []) 7
+  pub one-place : ShowsCount single (5 ∷ []) (7 ∷ []) (record { 0 = 7 })
   pub nine : (digits (single .bases) 9 ≡ 9 ∷ []) × (digitOf (single .bases) 0 9 ≡ Digit.Is 9)
   pub ten :
-      (carry single (0 ∷ []) (versionsAt 0) (WriteCount (record { 0 = 10 })) ≡ refused CountTooLarge)
+      (carry single (0 ∷ []) (versionsAt (record { 0 = 0 })) (WriteCount (record { 0 = 10 })) ≡ refused CountTooLarge)
       × (digitOf (single .bases) 0 10 ≡ Digit.Refused TooLarge)
       × (refusalNumber CountTooLarge ≡ 4)
   pub widest : digits (replicate 8 256) (2 ^ 64 - 1) ≡ replicate 8 255
   pub eighth :
-      carry single (0 ∷ []) (versionsAt 8) (WriteRecord 0)
-      ≡ done (withWriting (versionsAt 8) (aRecord (record { 0 = 9 }) 0 0)) Nothing
+      carry single (0 ∷ []) (versionsAt (record { 0 = 8 })) (WriteRecord 0)
+      ≡ done (withWriting (versionsAt (record { 0 = 8 })) (aRecord (record { 0 = 9 }) 0 0)) Nothing
   pub ninth :
-      (carry single (0 ∷ []) (versionsAt 9) (WriteRecord 0) ≡ refused VersionsExhausted)
+      (carry single (0 ∷ []) (versionsAt (record { 0 = 9 })) (WriteRecord 0) ≡ refused VersionsExhausted)
       × (refusalNumber VersionsExhausted ≡ 9)

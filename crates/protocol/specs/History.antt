@@ -77,8 +77,11 @@ historyOf o t x cs rs ms xs ys =
 unfoldable pub fresh : Form → History
 fresh F = historyOf true 0 noWrite [] [] (replicate (F .readers) noRead) [] []
 
-abbrev pub placed : ℕ → List ℕ → Placed
-placed i r = record { place = record { 0 = i }; content = r }
+abbrev pub openingPlace : Place
+openingPlace = record { 0 = 0 }
+
+abbrev pub placed : Place → List ℕ → Placed
+placed i r = record { place = i; content = r }
 
 abbrev pub begun : {A : Type 0} → A → Write A
 begun a = record { what = a; steps = [] }
@@ -133,7 +136,7 @@ unfoldable pub counted : Form → List ℕ → History → Bool → Command → 
 counted F S h acc (WriteCount c) = written h countWrite (begun c ∷ h .counts) (h .records)
 counted F S h acc (WriteRecord i) =
     written h (recordWrite i) (h .counts)
-    (begun (placed (suc (length (h .records))) (recordAt F S i)) ∷ h .records)
+    (begun (placed (record { 0 = suc (length (h .records)) }) (recordAt F S i)) ∷ h .records)
 counted F S h acc WriterStep = writerSteps F h (h .pending)
 counted F S h acc (BeginCountRead r) = read h r (countRead []) (h .countReads) (h .attempts)
 counted F S h acc (BeginRecordRead r a) = read h r (recordRead a [] []) (h .countReads) (h .attempts)

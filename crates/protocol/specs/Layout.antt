@@ -2,6 +2,8 @@
 use mathlib.Core.List.{List, _++_, map, reverse}
 use Prim.Native.Nat.{ℕ, _+_}
 use lib.ListN.{getD}
+use Rattle.radix.specs.declared.Count.{Count}
+use Rattle.radix.specs.declared.Version.{Version}
 use Rattle.radix.specs.Digits.{digits}
 use Rattle.protocol.specs.Lists.{range}
 use Rattle.protocol.specs.Form.{Form, m, versionBases}
@@ -25,8 +27,8 @@ v2 F = range (m F + m F + F .q + F .n) (F .q)
 unfoldable pub countOrder : Form → List ℕ
 countOrder F = c2 F ++ reverse (c1 F)
 
-unfoldable pub countDigits : Form → ℕ → List ℕ
-countDigits F c = digits (F .bases) c ++ reverse (digits (F .bases) c)
+unfoldable pub countDigits : Form → Count → List ℕ
+countDigits F c = digits (F .bases) (c .0) ++ reverse (digits (F .bases) (c .0))
 
 -- a count read goes the other way
 unfoldable pub countReadOrder : Form → List ℕ
@@ -36,8 +38,8 @@ countReadOrder F = reverse (countOrder F)
 unfoldable pub recordOrder : Form → List ℕ
 recordOrder F = v1 F ++ content F ++ reverse (v2 F)
 
-unfoldable pub recordDigits : Form → ℕ → List ℕ → List ℕ
-recordDigits F v r = digits (versionBases F) v ++ r ++ reverse (digits (versionBases F) v)
+unfoldable pub recordDigits : Form → Version → List ℕ → List ℕ
+recordDigits F v r = digits (versionBases F) (v .0) ++ r ++ reverse (digits (versionBases F) (v .0))
 
 -- an attempt at a record read: v2 left to right, the bytes ascending, v1 right to left
 unfoldable pub attemptOrder : Form → List ℕ

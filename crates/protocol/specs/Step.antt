@@ -4,6 +4,7 @@ use mathlib.Core.Bool.{Bool, _&&_, _||_, not, cond}
 use Prim.Native.Nat.{ℕ, suc, _+_, _*_, _-_}
 use lib.Dec.{eqb, ltb, leb}
 use lib.ListN.{length, take, drop, getD, set, replicate}
+use Rattle.radix.specs.declared.Count.{Count}
 use Rattle.radix.specs.declared.Comparison.{Comparison}
 use Rattle.radix.specs.declared.Comparison.the-variants.{Equal, Parted, Crossed}
 use Rattle.radix.specs.Digits.{product, value}
@@ -89,9 +90,9 @@ moves σ w order digits k =
 unfoldable pub stepWriter : Form → List ℕ → State → Writing → Answer
 stepWriter F S σ resting = refused NothingPending
 stepWriter F S σ (aCount c k) =
-    moves σ (onward (countSteps F) k (aCount c (suc k))) (countOrder F) (countDigits F (c .0)) k
+    moves σ (onward (countSteps F) k (aCount c (suc k))) (countOrder F) (countDigits F c) k
 stepWriter F S σ (aRecord v i k) =
-    moves σ (onward (recordSteps F) k (aRecord v i (suc k))) (recordOrder F) (recordDigits F (v .0) (recordAt F S i)) k
+    moves σ (onward (recordSteps F) k (aRecord v i (suc k))) (recordOrder F) (recordDigits F v (recordAt F S i)) k
 
 -- A READER: what it does with the one digit that it read. It sees no page, no writer and no other reader.
 
@@ -112,11 +113,11 @@ copyA w ds = reverse (drop w ds)
 abbrev pub copyB : ℕ → List ℕ → List ℕ
 copyB w ds = take w ds
 
-abbrev pub shows : ℕ → List ℕ → ℕ → Gathered
-shows r buffer x = gathered idle buffer (Shown r (record { 0 = x }))
+abbrev pub shows : ℕ → List ℕ → Count → Gathered
+shows r buffer c = gathered idle buffer (Shown r c)
 
 unfoldable pub endCount : Form → (reader : ℕ) → List ℕ → (a b : List ℕ) → Comparison → Gathered
-endCount F r buffer a b Equal = shows r buffer (value (F .bases) a)
+endCount F r buffer a b Equal = shows r buffer (record { 0 = value (F .bases) a })
 endCount F r buffer a b (Parted p) = shows r buffer (highEnd (F .bases) p b)
 endCount F r buffer a b Crossed = refused CopiesCrossed
 

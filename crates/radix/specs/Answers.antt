@@ -6,6 +6,7 @@ use lib.Dec.{ltb, leb, eqb}
 use lib.ListN.{length, getD, replicate}
 use Rattle.radix.specs.Digits.{product, value, digits, valid}
 use Rattle.radix.specs.Copies.{compare, lowEnd, highEnd}
+use Rattle.radix.specs.declared.Version.{Version}
 use Rattle.radix.specs.declared.Fault.{Fault}
 use Rattle.radix.specs.declared.Fault.the-variants.{BadBases, WrongLength, BadDigit, NoSuchDigit, TooLarge}
 use Rattle.radix.specs.declared.Digit.{Digit}
@@ -84,11 +85,11 @@ asVersion (Number.Is x) = VersionRead.Is (record { 0 = x })
 asVersion (Number.Refused why) = VersionRead.Refused why
 
 -- a version is a number of q digits of one base, at most four
-abbrev pub versionDigit : (base q k v : ℕ) → Digit
-versionDigit base q k v = cond (leb q 4) (digitOf (replicate q base) k v) (Digit.Refused BadBases)
+abbrev pub versionDigit : (base q k : ℕ) → Version → Digit
+versionDigit base q k v = cond (leb q 4) (digitOf (replicate q base) k (v .0)) (Digit.Refused BadBases)
 
-abbrev pub versionInto : (base q v : ℕ) → List ℕ → Into
-versionInto base q v out = cond (leb q 4) (digitsInto (replicate q base) v out) (into (Written.Refused BadBases) out)
+abbrev pub versionInto : (base q : ℕ) → Version → List ℕ → Into
+versionInto base q v out = cond (leb q 4) (digitsInto (replicate q base) (v .0) out) (into (Written.Refused BadBases) out)
 
 abbrev pub versionValue : (base q : ℕ) → List ℕ → Number
 versionValue base q ds = cond (leb q 4) (valueOf (replicate q base) ds) (Number.Refused BadBases)
@@ -100,7 +101,7 @@ compareOf a b = cond (eqb (length a) (length b)) (Compared.Is (compare a b)) (Co
 -- the two ends, from where the copies part
 abbrev pub endsAt : List ℕ → List ℕ → List ℕ → Comparison → Ends
 endsAt bs a b Equal = Same (record { 0 = value bs a })
-endsAt bs a b (Parted p) = Between (record { 0 = lowEnd bs p a }) (record { 0 = highEnd bs p b })
+endsAt bs a b (Parted p) = Between (lowEnd bs p a) (highEnd bs p b)
 endsAt bs a b Crossed = Ends.Crossed
 
 abbrev pub endsOf : List ℕ → List ℕ → List ℕ → Ends

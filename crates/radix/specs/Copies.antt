@@ -5,6 +5,7 @@ use Prim.Native.Nat.{ℕ, suc, pred, _-_}
 use lib.Dec.{ltb}
 use lib.ListN.{length, take, drop, replicate}
 use Rattle.radix.specs.Digits.{value}
+use Rattle.radix.specs.declared.Count.{Count}
 use Rattle.radix.specs.declared.Comparison.{Comparison}
 use Rattle.radix.specs.declared.Comparison.the-variants.{Equal, Parted, Crossed}
 
@@ -29,9 +30,9 @@ abbrev pub largestAfter : ℕ → List ℕ → List ℕ → List ℕ
 largestAfter k bs ds = take k ds ++ map pred (drop k bs)
 
 -- the count shown by document 01: the first p + 1 digits of b, zeros after
-abbrev pub highEnd : List ℕ → ℕ → List ℕ → ℕ
-highEnd bs p b = value bs (zerosAfter (suc p) b)
+abbrev pub highEnd : List ℕ → ℕ → List ℕ → Count
+highEnd bs p b = record { 0 = value bs (zerosAfter (suc p) b) }
 
 -- the first p + 1 digits of a, the largest digits after
-abbrev pub lowEnd : List ℕ → ℕ → List ℕ → ℕ
-lowEnd bs p a = value bs (largestAfter (suc p) bs a)
+abbrev pub lowEnd : List ℕ → ℕ → List ℕ → Count
+lowEnd bs p a = record { 0 = value bs (largestAfter (suc p) bs a) }

@@ -41,22 +41,24 @@ pub fn compared(a: &[u8], b: &[u8]) -> Compared
 }
 
 // The first p + 1 digits of b, zeros after.
-fn high_end(bases: &[u16], p: usize, b: &[u8]) -> u64
+fn high_end(bases: &[u16], p: usize, b: &[u8]) -> Count
     requires { ⌜ (goodBases (now bases) ≡ true) × (valid (now bases) (now b) ≡ true) × (p < length (now bases)) ⌝ }
     ensures { λ r. ⌜ r ≡ highEnd (now (bases .entry)) p (now (b .entry)) ⌝ }
 {
     let kept = p + 1;
-    mixed::horner(&bases[..kept], &b[..kept]) * mixed::weight(&bases[kept..])
+    let high = mixed::horner(&bases[..kept], &b[..kept]) * mixed::weight(&bases[kept..]);
+    Count(high)
 }
 
 // The first p + 1 digits of a, the largest digits after.
-fn low_end(bases: &[u16], p: usize, a: &[u8]) -> u64
+fn low_end(bases: &[u16], p: usize, a: &[u8]) -> Count
     requires { ⌜ (goodBases (now bases) ≡ true) × (valid (now bases) (now a) ≡ true) × (p < length (now bases)) ⌝ }
     ensures { λ r. ⌜ r ≡ lowEnd (now (bases .entry)) p (now (a .entry)) ⌝ }
 {
     let kept = p + 1;
     let w = mixed::weight(&bases[kept..]);
-    mixed::horner(&bases[..kept], &a[..kept]) * w + (w - 1)
+    let low = mixed::horner(&bases[..kept], &a[..kept]) * w + (w - 1);
+    Count(low)
 }
 
 // The counts that two copies allow: the low end and the high end, one count where they are equal.
@@ -82,8 +84,8 @@ pub fn ends(bases: &[u16], a: &[u8], b: &[u8]) -> Ends
     match c {
         Comparison::Equal => Ends::Same(Count(mixed::horner(bases, a))),
         Comparison::Parted(p) => Ends::Between {
-            low: Count(low_end(bases, p, a)),
-            high: Count(high_end(bases, p, b)),
+            low: low_end(bases, p, a),
+            high: high_end(bases, p, b),
         },
         Comparison::Crossed => Ends::Crossed,
     }

@@ -1,6 +1,9 @@
 // Numbers and digits: mixed-radix numbers over any list of bases, the leftmost digit counting most.
 //
 // Every public function is total. Each contract is an equation with a definition of specs/.
+ghost use mathlib.Core.Path.{_≡_};
+ghost use Rattle.radix.specs.Answers.{faultNumber};
+
 pub mod copies;
 pub mod counts;
 mod mixed;
@@ -18,7 +21,7 @@ pub struct Version(pub u32);
 // the opening is 0.
 pub struct Place(pub u64);
 
-// Why a call was refused. `faultNumber` in specs/Answers.antt gives document 01's number of each.
+// Why a call was refused.
 pub enum Fault {
     // More than eight bases, or one outside 2 to 256.
     BadBases,
@@ -78,4 +81,17 @@ pub enum Ends {
     Between { low: Count, high: Count },
     Crossed,
     Refused(Fault),
+}
+
+// Document 01's number of a refusal.
+pub fn fault_number(why: Fault) -> u8
+    ensures { λ r. ⌜ r ≡ faultNumber why ⌝ }
+{
+    match why {
+        Fault::BadBases => 1,
+        Fault::WrongLength => 2,
+        Fault::BadDigit => 3,
+        Fault::NoSuchDigit => 8,
+        Fault::TooLarge => 4,
+    }
 }

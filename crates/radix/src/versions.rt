@@ -11,7 +11,7 @@ use crate::mixed;
 
 // Digit k of a version, from the left, from 0.
 pub fn digit(base: u16, q: usize, k: usize, v: Version) -> Digit
-    ensures { λ r. ⌜ r ≡ versionDigit base q k (v .0) ⌝ }
+    ensures { λ r. ⌜ r ≡ versionDigit base q k v ⌝ }
 {
     if 4 < q {
         return Digit::Refused(Fault::BadBases);
@@ -22,7 +22,7 @@ pub fn digit(base: u16, q: usize, k: usize, v: Version) -> Digit
 
 // The digits of a version, into q bytes.
 pub fn write(base: u16, q: usize, v: Version, out: &mut [u8]) -> Written
-    ensures { λ r. ⌜ into r (now (out .exit)) ≡ versionInto base q (v .0) (now (out .entry)) ⌝ }
+    ensures { λ r. ⌜ into r (now (out .exit)) ≡ versionInto base q v (now (out .entry)) ⌝ }
 {
     if 4 < q {
         return Written::Refused(Fault::BadBases);

@@ -3,78 +3,81 @@ mod numbers;
 mod pairs;
 mod show;
 
+use radix::Count;
+use radix::Version;
+
 // One place.
 fn one_place() {
-    numbers::write(&[10], 0, &mut [7; 1]);
-    numbers::write(&[10], 9, &mut [7; 1]);
-    numbers::write(&[10], 10, &mut [7; 1]);
-    numbers::write(&[2], 1, &mut [7; 1]);
-    numbers::write(&[2], 2, &mut [7; 1]);
-    numbers::write(&[256], 255, &mut [7; 1]);
-    numbers::write(&[256], 256, &mut [7; 1]);
+    numbers::write(&[10], Count(0), &mut [7; 1]);
+    numbers::write(&[10], Count(9), &mut [7; 1]);
+    numbers::write(&[10], Count(10), &mut [7; 1]);
+    numbers::write(&[2], Count(1), &mut [7; 1]);
+    numbers::write(&[2], Count(2), &mut [7; 1]);
+    numbers::write(&[256], Count(255), &mut [7; 1]);
+    numbers::write(&[256], Count(256), &mut [7; 1]);
 }
 
 // Two places, three and eight.
 fn more_places() {
-    numbers::write(&[24, 60], 1439, &mut [7; 2]);
-    numbers::write(&[24, 60], 1440, &mut [7; 2]);
-    numbers::write(&[10, 10, 10], 99, &mut [7; 3]);
-    numbers::write(&[10, 10, 10], 100, &mut [7; 3]);
-    numbers::write(&[2; 8], 255, &mut [7; 8]);
-    numbers::write(&[2; 8], 256, &mut [7; 8]);
-    numbers::write(&[10; 8], 99999999, &mut [7; 8]);
-    numbers::write(&[10; 8], 100000000, &mut [7; 8]);
+    numbers::write(&[24, 60], Count(1439), &mut [7; 2]);
+    numbers::write(&[24, 60], Count(1440), &mut [7; 2]);
+    numbers::write(&[10, 10, 10], Count(99), &mut [7; 3]);
+    numbers::write(&[10, 10, 10], Count(100), &mut [7; 3]);
+    numbers::write(&[2; 8], Count(255), &mut [7; 8]);
+    numbers::write(&[2; 8], Count(256), &mut [7; 8]);
+    numbers::write(&[10; 8], Count(99999999), &mut [7; 8]);
+    numbers::write(&[10; 8], Count(100000000), &mut [7; 8]);
 }
 
 // The largest of all: its product is 2^64, which no u64 holds.
 fn largest() {
-    numbers::write(&[256; 8], 18446744073709551615, &mut [7; 8]);
-    numbers::write(&[256; 8], 72057594037927936, &mut [7; 8]);
-    numbers::write(&[256; 8], 0, &mut [7; 8]);
+    numbers::write(&[256; 8], Count(18446744073709551615), &mut [7; 8]);
+    numbers::write(&[256; 8], Count(72057594037927936), &mut [7; 8]);
+    numbers::write(&[256; 8], Count(0), &mut [7; 8]);
     numbers::write(
         &[256, 256, 256, 256, 256, 256, 256, 255],
-        18446744073709551615,
+        Count(18446744073709551615),
         &mut [7; 8],
     );
 }
 
 // Refused writes leave what was lent. The first check that fails answers.
 fn writes_refused() {
-    numbers::write(&[0], 0, &mut [7; 1]);
-    numbers::write(&[1], 0, &mut [7; 1]);
-    numbers::write(&[257], 0, &mut [7; 1]);
-    numbers::write(&[10, 1], 0, &mut [7; 2]);
-    numbers::write(&[2; 9], 0, &mut [7; 9]);
-    numbers::write(&[10, 10], 5, &mut [7; 1]);
-    numbers::write(&[10, 10], 5, &mut [7; 3]);
-    numbers::write(&[257], 5, &mut [7; 3]);
-    numbers::write(&[10, 10], 100, &mut [7; 3]);
+    numbers::write(&[0], Count(0), &mut [7; 1]);
+    numbers::write(&[1], Count(0), &mut [7; 1]);
+    numbers::write(&[257], Count(0), &mut [7; 1]);
+    numbers::write(&[10, 1], Count(0), &mut [7; 2]);
+    numbers::write(&[2; 9], Count(0), &mut [7; 9]);
+    numbers::write(&[10, 10], Count(5), &mut [7; 1]);
+    numbers::write(&[10, 10], Count(5), &mut [7; 3]);
+    numbers::write(&[257], Count(5), &mut [7; 3]);
+    numbers::write(&[10, 10], Count(100), &mut [7; 3]);
 }
 
 // One digit.
 fn digits() {
-    numbers::digit(&[10], 0, 9);
-    numbers::digit(&[10], 0, 10);
-    numbers::digit(&[10, 10, 10], 0, 123);
-    numbers::digit(&[10, 10, 10], 1, 123);
-    numbers::digit(&[10, 10, 10], 2, 123);
-    numbers::digit(&[24, 60], 0, 719);
-    numbers::digit(&[24, 60], 1, 719);
-    numbers::digit(&[256; 8], 0, 18446744073709551615);
-    numbers::digit(&[256; 8], 7, 18446744073709551615);
+    numbers::digit(&[10], 0, Count(9));
+    numbers::digit(&[10], 0, Count(10));
+    numbers::digit(&[10, 10, 10], 0, Count(123));
+    numbers::digit(&[10, 10, 10], 1, Count(123));
+    numbers::digit(&[10, 10, 10], 2, Count(123));
+    numbers::digit(&[24, 60], 0, Count(719));
+    numbers::digit(&[24, 60], 1, Count(719));
+    numbers::digit(&[256; 8], 0, Count(18446744073709551615));
+    numbers::digit(&[256; 8], 7, Count(18446744073709551615));
 }
 
 // No such digit is told before a number that is too large.
 fn digits_refused() {
-    numbers::digit(&[10], 1, 9);
-    numbers::digit(&[10], 1, 10);
-    numbers::digit(&[256; 8], 8, 18446744073709551615);
-    numbers::digit(&[10, 10, 10], 18446744073709551615, 0);
-    numbers::digit(&[10, 10, 10], 2, 1000);
-    numbers::digit(&[0], 0, 0);
-    numbers::digit(&[1], 0, 0);
-    numbers::digit(&[257], 0, 0);
-    numbers::digit(&[2; 9], 0, 0);
+    numbers::digit(&[10], 1, Count(9));
+    numbers::digit(&[10], 1, Count(10));
+    numbers::digit(&[256; 8], 8, Count(18446744073709551615));
+    numbers::digit(&[10, 10, 10], 18446744073709551615, Count(0));
+    numbers::digit(&[10, 10, 10], 2, Count(1000));
+    numbers::digit(&[0], 0, Count(0));
+    numbers::digit(&[1], 0, Count(0));
+    numbers::digit(&[257], 0, Count(0));
+    numbers::digit(&[2; 9], 0, Count(0));
 }
 
 // Digits read.
@@ -104,28 +107,28 @@ fn reads_refused() {
 
 // Versions: the largest of four places of base 256 is 2^32 - 1.
 fn versions() {
-    numbers::write_version(256, 4, 4294967295, &mut [7; 4]);
-    numbers::version_digit(256, 4, 0, 4294967295);
-    numbers::version_digit(256, 4, 3, 4294967295);
+    numbers::write_version(256, 4, Version(4294967295), &mut [7; 4]);
+    numbers::version_digit(256, 4, 0, Version(4294967295));
+    numbers::version_digit(256, 4, 3, Version(4294967295));
     numbers::read_version(256, 4, &[255; 4]);
-    numbers::write_version(10, 1, 9, &mut [7; 1]);
+    numbers::write_version(10, 1, Version(9), &mut [7; 1]);
     numbers::read_version(10, 1, &[9]);
-    numbers::write_version(2, 4, 15, &mut [7; 4]);
+    numbers::write_version(2, 4, Version(15), &mut [7; 4]);
     numbers::read_version(2, 4, &[1; 4]);
-    numbers::write_version(256, 3, 65536, &mut [7; 3]);
+    numbers::write_version(256, 3, Version(65536), &mut [7; 3]);
 }
 
 // Versions refused.
 fn versions_refused() {
-    numbers::write_version(10, 1, 10, &mut [7; 1]);
-    numbers::write_version(256, 3, 16777216, &mut [7; 3]);
-    numbers::write_version(1, 2, 0, &mut [7; 2]);
-    numbers::write_version(257, 2, 0, &mut [7; 2]);
-    numbers::write_version(10, 5, 0, &mut [7; 5]);
-    numbers::write_version(10, 2, 5, &mut [7; 3]);
-    numbers::version_digit(10, 1, 1, 9);
-    numbers::version_digit(10, 1, 0, 10);
-    numbers::version_digit(10, 5, 0, 0);
+    numbers::write_version(10, 1, Version(10), &mut [7; 1]);
+    numbers::write_version(256, 3, Version(16777216), &mut [7; 3]);
+    numbers::write_version(1, 2, Version(0), &mut [7; 2]);
+    numbers::write_version(257, 2, Version(0), &mut [7; 2]);
+    numbers::write_version(10, 5, Version(0), &mut [7; 5]);
+    numbers::write_version(10, 2, Version(5), &mut [7; 3]);
+    numbers::version_digit(10, 1, 1, Version(9));
+    numbers::version_digit(10, 1, 0, Version(10));
+    numbers::version_digit(10, 5, 0, Version(0));
     numbers::read_version(10, 2, &[1, 10]);
     numbers::read_version(10, 2, &[1]);
     numbers::read_version(10, 5, &[0; 5]);

@@ -5,25 +5,25 @@ use radix::CountRead;
 use radix::Version;
 use radix::VersionRead;
 
-pub(crate) fn write(bases: &[u16], x: u64, out: &mut [u8]) {
+pub(crate) fn write(bases: &[u16], c: Count, out: &mut [u8]) {
     show::say(b"write ");
-    show::tell(x);
+    show::tell(c.0);
     show::say(b" over");
     show::bases(bases);
     show::say(b":");
-    let w = radix::counts::write(bases, Count(x), out);
+    let w = radix::counts::write(bases, c, out);
     show::written(w, out);
 }
 
-pub(crate) fn digit(bases: &[u16], k: usize, x: u64) {
+pub(crate) fn digit(bases: &[u16], k: usize, c: Count) {
     show::say(b"digit ");
     show::tell(k as u64);
     show::say(b" of ");
-    show::tell(x);
+    show::tell(c.0);
     show::say(b" over");
     show::bases(bases);
     show::say(b":");
-    show::digit(radix::counts::digit(bases, k, Count(x)));
+    show::digit(radix::counts::digit(bases, k, c));
     show::say(b"\n");
 }
 
@@ -67,21 +67,21 @@ fn places(base: u16, q: usize) {
     show::say(b":");
 }
 
-pub(crate) fn write_version(base: u16, q: usize, v: u32, out: &mut [u8]) {
+pub(crate) fn write_version(base: u16, q: usize, v: Version, out: &mut [u8]) {
     show::say(b"write version ");
-    show::tell(v as u64);
+    show::tell(v.0 as u64);
     places(base, q);
-    let w = radix::versions::write(base, q, Version(v), out);
+    let w = radix::versions::write(base, q, v, out);
     show::written(w, out);
 }
 
-pub(crate) fn version_digit(base: u16, q: usize, k: usize, v: u32) {
+pub(crate) fn version_digit(base: u16, q: usize, k: usize, v: Version) {
     show::say(b"digit ");
     show::tell(k as u64);
     show::say(b" of version ");
-    show::tell(v as u64);
+    show::tell(v.0 as u64);
     places(base, q);
-    show::digit(radix::versions::digit(base, q, k, Version(v)));
+    show::digit(radix::versions::digit(base, q, k, v));
     show::say(b"\n");
 }
 

@@ -46,20 +46,9 @@ pub(crate) fn answer(yes: bool) {
     }
 }
 
-// Document 01's number of a refusal.
-fn number(why: Fault) -> u64 {
-    match why {
-        Fault::BadBases => 1,
-        Fault::WrongLength => 2,
-        Fault::BadDigit => 3,
-        Fault::TooLarge => 4,
-        Fault::NoSuchDigit => 8,
-    }
-}
-
 pub(crate) fn refused(why: Fault) {
     say(b" refused ");
-    tell(number(why));
+    tell(radix::fault_number(why) as u64);
 }
 
 // The answer of a write, and what was lent as the call left it.

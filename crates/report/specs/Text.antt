@@ -4,6 +4,8 @@ use mathlib.Core.Bool.{cond}
 use Prim.Native.Nat.{ℕ, zero, suc, _+_, _*_, _/_, _%_, _≤_}
 use lib.Dec.{ltb}
 use lib.ListN.{length, take, drop}
+use Rattle.radix.specs.declared.Count.{Count}
+use Rattle.radix.specs.declared.Version.{Version}
 use Rattle.protocol.specs.Outcome.{endingNumber}
 use Rattle.protocol.specs.declared.Ending.{Ending}
 use Rattle.protocol.specs.declared.Outcome.{Outcome}
@@ -34,21 +36,21 @@ words (w ∷ ws) = 32 ∷ (w ++ words ws)
 
 -- THE LINE OF AN OUTCOME: the reader, and what it shows; or the attempts used
 
-abbrev pub shownLine : (who shown : ℕ) → List ℕ
-shownLine r c = 67 ∷ words (decimal r ∷ decimal c ∷ [])
+abbrev pub shownLine : (who : ℕ) → Count → List ℕ
+shownLine r c = 67 ∷ words (decimal r ∷ decimal (c .0) ∷ [])
 
 -- the record is what the reader's buffer of n bytes holds
-abbrev pub acceptedLine : (n : ℕ) → (buffers : List ℕ) → (who used version : ℕ) → List ℕ
+abbrev pub acceptedLine : (n : ℕ) → (buffers : List ℕ) → (who used : ℕ) → Version → List ℕ
 acceptedLine n buffers r k v =
-    82 ∷ words (decimal r ∷ decimal k ∷ decimal v ∷ hex (take n (drop (r * n) buffers)) ∷ [])
+    82 ∷ words (decimal r ∷ decimal k ∷ decimal (v .0) ∷ hex (take n (drop (r * n) buffers)) ∷ [])
 
 abbrev pub gaveUpLine : (who used : ℕ) → List ℕ
 gaveUpLine r k = 71 ∷ words (decimal r ∷ decimal k ∷ [])
 
 abbrev pub outcomeLine : (n : ℕ) → (buffers : List ℕ) → Outcome → List ℕ
 outcomeLine n buffers Nothing = []
-outcomeLine n buffers (Shown r c) = shownLine r (c .0)
-outcomeLine n buffers (Accepted r k v) = acceptedLine n buffers r k (v .0)
+outcomeLine n buffers (Shown r c) = shownLine r c
+outcomeLine n buffers (Accepted r k v) = acceptedLine n buffers r k v
 outcomeLine n buffers (GaveUp r k) = gaveUpLine r k
 
 -- END, commands carried out, the refusal or 0

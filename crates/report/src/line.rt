@@ -14,7 +14,7 @@ use radix::Version;
 fn put_shown(out: &mut [u8], who: u8, shown: Count) -> usize
     requires { ⌜ 640 ≤ length (now out) ⌝ }
     ensures { λ r. ⌜ added (now (out .exit)) r
-        ≡ added (overlay (now (out .entry)) 0 (shownLine who (shown .0))) (length (shownLine who (shown .0))) ⌝ }
+        ≡ added (overlay (now (out .entry)) 0 (shownLine who shown)) (length (shownLine who shown)) ⌝ }
 {
     let a = text::put_letter(out, 0, 67);
     let b = text::put_word(out, a, bytes::wide(who));
@@ -25,8 +25,8 @@ fn put_shown(out: &mut [u8], who: u8, shown: Count) -> usize
 fn put_accepted(out: &mut [u8], n: usize, buffers: &[u8], who: u8, used: u8, v: Version) -> usize
     requires { ⌜ (640 ≤ length (now out)) × (n ≤ 256) × (who * n + n ≤ length (now buffers)) ⌝ }
     ensures { λ r. ⌜ added (now (out .exit)) r
-        ≡ added (overlay (now (out .entry)) 0 (acceptedLine n (now (buffers .entry)) who used (v .0)))
-        (length (acceptedLine n (now (buffers .entry)) who used (v .0))) ⌝ }
+        ≡ added (overlay (now (out .entry)) 0 (acceptedLine n (now (buffers .entry)) who used v))
+        (length (acceptedLine n (now (buffers .entry)) who used v)) ⌝ }
 {
     let from = bytes::index(who) * n;
     let to = from + n;

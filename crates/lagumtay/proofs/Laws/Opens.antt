@@ -2,6 +2,7 @@
 use mathlib.Core.Path.{_≡_, ap}
 use mathlib.Core.List.{List}
 use Prim.Native.Nat.{ℕ}
+use Rattle.radix.specs.declared.Count.{Count}
 use Rattle.protocol.specs.Form.{Form}
 use Rattle.protocol.specs.Memory.{Memory}
 use Rattle.protocol.specs.Outcome.{endingNumber}
@@ -10,7 +11,7 @@ use Rattle.page.specs.Calls.{OpenedLent, openedLent, openLent}
 use Rattle.lagumtay.specs.Calls.{left, openCall}
 
 pub opened-left :
-    (o : Opened) (N L : Memory) (F : Form) (c : ℕ) (r : List ℕ) →
-    openedLent o N ≡ openLent F L (record { 0 = c }) r → left (endingNumber (o .ending)) N ≡ openCall F L c r
+    (o : Opened) (N L : Memory) (F : Form) (c : Count) (r : List ℕ) →
+    openedLent o N ≡ openLent F L c r → left (endingNumber (o .ending)) N ≡ openCall F L c r
 unfolding openLent openCall
 opened-left o N L F c r e = ap (λ (x : OpenedLent). left (endingNumber (x .opened .ending)) (x .memory)) e

@@ -45,8 +45,8 @@ ends-parts bs digits e h = let w : 8 + length bs - 8 ≡ length bs = omega arith
 
 -- what the ends of two copies show
 unfoldable pub shownBy : ℕ → List ℕ → Ends → Gathered
-shownBy r b (Same c) = shows r b (c .0)
-shownBy r b (Between low high) = shows r b (high .0)
+shownBy r b (Same c) = shows r b c
+shownBy r b (Between low high) = shows r b high
 shownBy r b Ends.Crossed = Gathered.refused CopiesCrossed
 shownBy r b (Ends.Refused why) = Gathered.refused CopiesCrossed
 

@@ -10,6 +10,7 @@ use lib.ListN.{length, getD, take, drop, replicate, length-append, length-replic
 use lib.Seq.{length-take-le}
 use borrow.Author.Tests.{ltb-true, ltb-false, eq-eqb, le-leb}
 use Rattle.radix.specs.Digits.{product, digits, Valid, none, more, bytes, ofBytes}
+use Rattle.radix.specs.declared.Version.{Version}
 use Rattle.radix.specs.Answers.{goodBases, Into, into, digitsInto, versionInto}
 use Rattle.radix.specs.declared.Fault.{Fault}
 use Rattle.radix.specs.declared.Fault.the-variants.{TooLarge}
@@ -132,7 +133,8 @@ module _
 
 -- a version's digits, as radix writes them
 pub version-into :
-    (base q v : ℕ) (out : List ℕ) → q ≤ 4 → versionInto base q v out ≡ digitsInto (replicate q base) v out
+    (base q : ℕ) (v : Version) (out : List ℕ) → q ≤ 4 →
+    versionInto base q v out ≡ digitsInto (replicate q base) (v .0) out
 version-into base q v out h = rw (le-leb q 4 h)
 
 -- WHAT INK SAYS

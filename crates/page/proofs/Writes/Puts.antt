@@ -11,12 +11,12 @@ use lib.Seq.{getD-take, getD-drop}
 use borrow.Author.Tests.{leb-true, leb-false, ltb-true, ltb-false, lt-ltb, le-ltb, le-leb}
 use Rattle.radix.specs.Digits.{digits, bytes}
 use Rattle.protocol.specs.Form.{Form, m, versionBases, countSteps, recordSteps}
-use Rattle.protocol.specs.Layout.{countDigits, recordDigits}
 use Rattle.protocol.specs.Step.{recordAt, inRecords}
 use Rattle.protocol.specs.Allowed.{versionDigits}
 use Rattle.protocol.specs.Memory.{eight}
 use Rattle.protocol.proofs.Lists.Cases.{both}
-use Rattle.protocol.proofs.Positions.Records.{recordDigitMid}
+use Rattle.protocol.proofs.Positions.Counts.{countImage}
+use Rattle.protocol.proofs.Positions.Records.{recordImage, recordDigitMid}
 use Rattle.protocol.proofs.Positions.Steps.{digit-low, digit-high, version-before, version-after}
 use Rattle.protocol.proofs.Allowed.Writer.{record-length}
 use Rattle.checks.specs.Layout.{inContent, thereAndBack}
@@ -25,11 +25,11 @@ use Rattle.checks.proofs.Inside.{there-inside}
 -- A COUNT
 
 module _ (F : Form) (c k : ℕ) (inside : k < countSteps F) where
-  pub count-digit : getD (digits (F .bases) c) (thereAndBack (m F) k) 0 ≡ getD (countDigits F c) k 0
+  pub count-digit : getD (digits (F .bases) c) (thereAndBack (m F) k) 0 ≡ getD (countImage F c) k 0
   count-digit = go (ltb k (m F)) refl
     where
       go : (t : Bool) → ltb k (m F) ≡ t
-          → getD (digits (F .bases) c) (thereAndBack (m F) k) 0 ≡ getD (countDigits F c) k 0
+          → getD (digits (F .bases) c) (thereAndBack (m F) k) 0 ≡ getD (countImage F c) k 0
       go true e = rw e (sym (digit-low F c k (ltb-true k (m F) e)))
       go false e =
           rw e (sym (digit-high F c k (m F + m F - 1 - k) (ltb-false k (m F) e) (omega arith)))
@@ -41,14 +41,14 @@ module _ (F : Form) (v k : ℕ) (r : List ℕ) (size : length r ≡ F .n) where
   pub version-step :
       inContent F k ≡ false → k < recordSteps F →
       (versionDigits F k < F .q + F .q)
-      × (getD (digits (versionBases F) v) (thereAndBack (F .q) (versionDigits F k)) 0 ≡ getD (recordDigits F v r) k 0)
+      × (getD (digits (versionBases F) v) (thereAndBack (F .q) (versionDigits F k)) 0 ≡ getD (recordImage F v r) k 0)
   version-step out inside = go (leb (F .q) k) (ltb k (F .q + F .n)) refl refl
     where
       go :
           (a b : Bool) → leb (F .q) k ≡ a → ltb k (F .q + F .n) ≡ b →
           (versionDigits F k < F .q + F .q)
           × (getD (digits (versionBases F) v) (thereAndBack (F .q) (versionDigits F k)) 0
-          ≡ getD (recordDigits F v r) k 0)
+          ≡ getD (recordImage F v r) k 0)
       go false b x y =
           let h : k < F .q = leb-false (F .q) k x in
           let e : versionDigits F k ≡ k = omega arith in (
@@ -75,12 +75,12 @@ module _ (F : Form) (S : List ℕ) (v i k : ℕ) (there : inRecords F S i ≡ tr
       let (l, h) = content-bounds in
       omega (arith, leb-true (suc i * F .n) (length S) there, suc-mul i (F .n))
 
-  pub byte-here : getD S (i * F .n + (k - F .q)) 0 ≡ getD (recordDigits F v (recordAt F S i)) k 0
+  pub byte-here : getD S (i * F .n + (k - F .q)) 0 ≡ getD (recordImage F v (recordAt F S i)) k 0
   byte-here =
       let (l, h) = content-bounds in
       let s : k ≡ F .q + (k - F .q) = omega arith in
       let g : k - F .q < F .n = omega arith in
-      sym (ap (λ j. getD (recordDigits F v (recordAt F S i)) j 0) s
+      sym (ap (λ j. getD (recordImage F v (recordAt F S i)) j 0) s
       ∙ recordDigitMid F v (recordAt F S i) (record-length F S i there) (k - F .q) g
       ∙ getD-take (F .n) (drop (i * F .n) S) (k - F .q) 0 g
       ∙ getD-drop (i * F .n) S (k - F .q) 0)

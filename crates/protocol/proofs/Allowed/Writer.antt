@@ -16,8 +16,9 @@ use Rattle.protocol.specs.Layout.{countOrder, countDigits, recordOrder, 
 use Rattle.protocol.specs.State.{Writing, resting, aCount, aRecord, State}
 use Rattle.protocol.specs.Step.{recordAt, inRecords, onward, stepWriter}
 use Rattle.protocol.proofs.Lists.Cases.{by-cond}
+use Rattle.protocol.proofs.Positions.Counts.{countImage}
 use Rattle.protocol.proofs.InRange.{InRange}
-use Rattle.protocol.proofs.Positions.Records.{length-versionBases}
+use Rattle.protocol.proofs.Positions.Records.{recordImage, length-versionBases}
 use Rattle.protocol.proofs.Positions.Steps.{
   count-low,
   count-high,
@@ -49,11 +50,11 @@ record-length F S i h =
 
 module _ (F : Form) (range : InRange F) (page : List ℕ) (good : GoodPage F page) where
   count-page : (c k : ℕ) → k < countSteps F → countSteps F ≤ length page
-      → GoodPage F (set page (getD (countOrder F) k 0) (getD (countDigits F c) k 0))
+      → GoodPage F (set page (getD (countOrder F) k 0) (getD (countImage F c) k 0))
   count-page c k h size = go (ltb k (m F)) refl
     where
       go : (t : Bool) → ltb k (m F) ≡ t
-          → GoodPage F (set page (getD (countOrder F) k 0) (getD (countDigits F c) k 0))
+          → GoodPage F (set page (getD (countOrder F) k 0) (getD (countImage F c) k 0))
       go true e =
           let l : k < m F = ltb-true k (m F) e in
           rw (count-low F k l, digit-low F c k l)
@@ -76,7 +77,7 @@ module _ (F : Form) (range : InRange F) (page : List ℕ) (good : GoodPage F pag
       (room : countSteps F + recordSteps F ≤ length page)
     where
       abbrev Written : Type 0
-      Written = GoodPage F (set page (getD (recordOrder F) k 0) (getD (recordDigits F v r) k 0))
+      Written = GoodPage F (set page (getD (recordOrder F) k 0) (getD (recordImage F v r) k 0))
 
       version-lt : (j : ℕ) → j < F .q → getD (digits (versionBases F) v) j 0 < getD (versionBases F) j 0
       version-lt j g =
@@ -91,7 +92,7 @@ module _ (F : Form) (range : InRange F) (page : List ℕ) (good : GoodPage F pag
       written-content : F .q ≤ k → k < F .q + F .n → Written
       written-content g l =
           rw (record-content F k g l)
-          (into-content F page (m F + m F + k) (getD (recordDigits F v r) k 0) (omega arith) good (k - F .q)
+          (into-content F page (m F + m F + k) (getD (recordImage F v r) k 0) (omega arith) good (k - F .q)
           (omega arith) (omega arith))
 
       written-after : F .q + F .n ≤ k → Written
@@ -128,10 +129,10 @@ module _ (F : Form) (S : List ℕ) (range : InRange F) where
   writer-kept σ resting fine g = tt
   writer-kept σ (aCount c k) fine g =
       fine-digit F S σ fine (onward (countSteps F) k (aCount c (suc k))) (getD (countOrder F) k 0)
-      (getD (countDigits F (c .0)) k 0) (on-count c k g)
+      (getD (countDigits F c) k 0) (on-count c k g)
       (count-page F range (σ .page) (fine .good .page) (c .0) k (g .0) (omega (arith, fine .sized .page)))
   writer-kept σ (aRecord v i k) fine g =
       fine-digit F S σ fine (onward (recordSteps F) k (aRecord v i (suc k))) (getD (recordOrder F) k 0)
-      (getD (recordDigits F (v .0) (recordAt F S i)) k 0) (on-record v i k g)
+      (getD (recordDigits F v (recordAt F S i)) k 0) (on-record v i k g)
       (record-page F range (σ .page) (fine .good .page) (v .0) (recordAt F S i) (record-length F S i (g .3)) k (g .0)
       (omega (arith, fine .sized .page)))

@@ -67,10 +67,10 @@ module _ (F : Form) (x : Count) (r₀ : List ℕ) (ok : Proper F r₀) (story : 
   high = latest (begunBefore (lastOf us)) x (h .counts) .0
 
   module _ (full : suc (length ds) ≡ countSteps F) where
-    shows-within : (c : ℕ) → low ≤ c → c ≤ high → Comes (shows r buffer c)
+    shows-within : (c : Count) → low ≤ c .0 → c .0 ≤ high → Comes (shows r buffer c)
     unfolding onGathered readerSteps isAccepted
     shows-within c l g =
-        let o : Outcome = Shown r (record { 0 = c }) in
+        let o : Outcome = Shown r c in
         let y : CountRead = record { reader = r; steps = us } in
         let e : Event = event σ r idle buffer o in
         rw (eq-eqb (suc (length ts)) (countSteps F) (omega (arith, counting .same)))
@@ -81,7 +81,7 @@ module _ (F : Form) (x : Count) (r₀ : List ℕ) (ok : Proper F r₀) (story : 
         (at-readings F x r₀ ok story σ h inv r reader) (at-reads F x r₀ ok story σ h inv r reader) tt (
           record {
             span = record {
-              shown = record { 0 = c };
+              shown = c;
               ends = outcome-new story (h .now) (inv .time) e;
               low = l;
               high = g;
@@ -99,7 +99,7 @@ module _ (F : Form) (x : Count) (r₀ : List ℕ) (ok : Proper F r₀) (story : 
         (c : Comparison) → Within (F .bases) low high (copyA (m F) ds′) (copyB (m F) ds′) c →
         Comes (endCount F r buffer (copyA (m F) ds′) (copyB (m F) ds′) c)
     unfolding endCount
-    ends-count Equal w = shows-within (value (F .bases) (copyA (m F) ds′)) (w .0) (w .1)
+    ends-count Equal w = shows-within (record { 0 = value (F .bases) (copyA (m F) ds′) }) (w .0) (w .1)
     ends-count (Parted p) w = shows-within _ (omega (arith, w .0, w .1)) (w .2)
     ends-count Crossed w = absurd w
 

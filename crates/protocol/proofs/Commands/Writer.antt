@@ -147,7 +147,7 @@ module _ (F : Form) (x : Count) (r₀ S : List ℕ) (ok : Proper F r₀) (story 
       (λ b.
       writer-inv F x r₀ story (state resting) (past noWrite cs rs) inv page
       (aRecord (record { 0 = suc shown }) i 0) (recordWrite i) cs
-      (begun (placed (suc (length rs)) (recordAt F S i)) ∷ rs) (inv .marks) refl (writesRecord (ap suc top) refl)
+      (begun (placed (record { 0 = suc (length rs) }) (recordAt F S i)) ∷ rs) (inv .marks) refl (writesRecord (ap suc top) refl)
       (count-same F x (ok .places) story now page false cs readings reads xs (inv .counts) _ (inv .time))
       (record-begin F r₀ (steps-some ok) story now page rs readings reads buffers ys (inv .marks) _ (inv .time)
       (inv .records) (recordAt F S i)

@@ -8,7 +8,7 @@ use lib.ListN.{length, getD, set, length-set}
 use borrow.Author.Tests.{eq-eqb, ne-eqb, ltb-true, ltb-false}
 use Rattle.radix.specs.declared.Count.{Count}
 use Rattle.protocol.specs.Form.{Form, countSteps, recordSteps}
-use Rattle.protocol.specs.Layout.{countOrder, countDigits, recordOrder, recordDigits}
+use Rattle.protocol.specs.Layout.{countOrder, countDigits, recordOrder}
 use Rattle.protocol.specs.State.{Writing, resting, aCount, aRecord, Reading, State, stateOf}
 use Rattle.protocol.specs.Outcome.{isAccepted}
 use Rattle.protocol.specs.Step.{recordAt, stepWriter}
@@ -35,7 +35,7 @@ use Rattle.protocol.specs.declared.Ending.the-variants.{Refused}
 use Rattle.protocol.specs.declared.Outcome.the-variants.{Nothing}
 use Rattle.protocol.specs.declared.Refusal.the-variants.{NothingPending}
 use Rattle.protocol.proofs.Positions.Counts.{count-below}
-use Rattle.protocol.proofs.Positions.Records.{record-within}
+use Rattle.protocol.proofs.Positions.Records.{recordImage, record-within}
 use Rattle.protocol.proofs.Items.Writes.{still, on}
 use Rattle.protocol.proofs.Counts.Part.{count-untouched, count-step}
 use Rattle.protocol.proofs.Records.Numbered.{number}
@@ -70,7 +70,7 @@ module _ (F : Form) (x : Count) (r₀ S : List ℕ) (ok : Proper F r₀) (story 
     after =
         stateOf
         (set page (getD (countOrder F) (length (p .steps)) 0)
-        (getD (countDigits F (p .what .0)) (length (p .steps)) 0))
+        (getD (countDigits F (p .what)) (length (p .steps)) 0))
         w readings buffers;
     outcome = Nothing;
   }
@@ -80,7 +80,7 @@ module _ (F : Form) (x : Count) (r₀ S : List ℕ) (ok : Proper F r₀) (story 
     after =
         stateOf
         (set page (getD (recordOrder F) (length (p .steps)) 0)
-        (getD (recordDigits F (number (p .what)) (p .what .content)) (length (p .steps)) 0))
+        (getD (recordImage F (number (p .what)) (p .what .content)) (length (p .steps)) 0))
         w readings buffers;
     outcome = Nothing;
   }

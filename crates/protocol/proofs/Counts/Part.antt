@@ -26,7 +26,7 @@ use Rattle.protocol.specs.declared.Outcome.the-variants.{Nothing}
 use Rattle.protocol.proofs.Lists.Cases.{by-cond, all-map}
 use Rattle.protocol.proofs.Lists.Places.{look-is}
 use Rattle.protocol.proofs.Lists.Story.{snoc-old}
-use Rattle.protocol.proofs.Positions.Counts.{countRead, countDigitLow, countLow, count-apart, count-below}
+use Rattle.protocol.proofs.Positions.Counts.{countImage, countRead, countDigitLow, countLow, count-apart, count-below}
 use Rattle.protocol.proofs.Items.Times.{Desc, desc-le, desc-now, first-le, first-more}
 use Rattle.protocol.proofs.Items.Writes.{
   on,
@@ -60,7 +60,7 @@ module _ (F : Form) (x : Count) where
     pub same : length ts ≡ length ds
     pub desc : Desc now ts
     pub fell : 0 < length ds → (p : ℕ) → p + length ds ≡ countSteps F
-        → Fell (countDigits F) p ds (latest (writtenBefore (countSteps F) (firstOf ts)) x ps .0) (c p)
+        → Fell (countImage F) p ds (latest (writtenBefore (countSteps F) (firstOf ts)) x ps .0) (c p)
 
   abbrev pub CRel : ℕ → (ℕ → ℕ) → List (Write Count) → Reading → Read → Type 0
   CRel now c ps idle rd = Unit {0}
@@ -78,7 +78,7 @@ module _ (F : Form) (x : Count) where
       (sts : List Reading) (mine : List Read) (xs : List CountRead) : Type 0 where
     pub fit : Fit num (countSteps F) now x b ps
     pub below : (x .0 < product (F .bases)) × All (λ p. p .what .0 < product (F .bases)) ps
-    pub holds : Holds (countSteps F) (countOrder F) (countDigits F) page (cur num b x ps)
+    pub holds : Holds (countSteps F) (countOrder F) (countImage F) page (cur num b x ps)
     pub each : (r : ℕ) → CRel now (cur num b x ps) ps (getD sts r idle) (getD mine r Read.noRead)
     pub dones : All (Done story now ps) xs
 
@@ -127,8 +127,8 @@ module _ (F : Form) (x : Count) where
     -- one more digit
     module _ (now : ℕ) (b : Bool) (ps : List (Write Count)) (fit : Fit num (countSteps F) now x b ps) where
       gather-fell : (ds ts : List ℕ) → Counting now (cur num b x ps) ps ds ts → (p d : ℕ)
-          → p + suc (length ds) ≡ countSteps F → d ≡ getD (countDigits F (cur num b x ps p)) p 0
-          → Fell (countDigits F) p (d ∷ ds) (latest (writtenBefore (countSteps F) (firstOf (suc now ∷ ts))) x ps .0)
+          → p + suc (length ds) ≡ countSteps F → d ≡ getD (countImage F (cur num b x ps p)) p 0
+          → Fell (countImage F) p (d ∷ ds) (latest (writtenBefore (countSteps F) (firstOf (suc now ∷ ts))) x ps .0)
           (cur num b x ps p)
       gather-fell [] [] h p d e q =
           Fell.more q (le-refl _)
@@ -141,7 +141,7 @@ module _ (F : Form) (x : Count) where
           (fell-up (cur-falls num (countSteps F) x sizePos now b ps fit p (suc p) (omega arith))
           (h .fell (omega arith) (suc p) (omega arith))))
 
-      pub gathers : (page ds ts : List ℕ) → Holds (countSteps F) (countOrder F) (countDigits F) page (cur num b x ps)
+      pub gathers : (page ds ts : List ℕ) → Holds (countSteps F) (countOrder F) (countImage F) page (cur num b x ps)
           → Counting now (cur num b x ps) ps ds ts
           → length ds < countSteps F
           → Counting (suc now) (cur num b x ps) ps (getD page (getD (countReadOrder F) (length ds) 0) 0 ∷ ds)
@@ -196,7 +196,7 @@ module _ (F : Form) (x : Count) where
       count-writer : (page′ : List ℕ) (b′ : Bool) (ps′ : List (Write Count)) → Grow num (countSteps F) x now b ps b′ ps′
           → Fit num (countSteps F) (suc now) x b′ ps′
           → All (λ p. p .what .0 < product (F .bases)) ps′
-          → Holds (countSteps F) (countOrder F) (countDigits F) page′ (cur num b′ x ps′)
+          → Holds (countSteps F) (countOrder F) (countImage F) page′ (cur num b′ x ps′)
           → CountInv (story ++ (e ∷ [])) (suc now) page′ b′ ps′ sts mine xs
       count-writer page′ b′ ps′ g fit below holds = record {
         fit = fit;
@@ -240,20 +240,20 @@ module _ (F : Form) (x : Count) where
           (begin-grow num (countSteps F) x sizePos now c ps)
           (begin-fit num (countSteps F) x sizePos now c ps (inv .fit) h) (g, inv .below .1)
           (λ k l. inv .holds k l
-          ∙ ap (λ v. getD (countDigits F v) k 0) (sym (begin-cur num (countSteps F) x sizePos c ps k)))
+          ∙ ap (λ v. getD (countImage F v) k 0) (sym (begin-cur num (countSteps F) x sizePos c ps k)))
 
       pub count-step : (p : Write Count) → CountInv story now page true (p ∷ ps) sts mine xs → (e : Event)
           → length story ≡ now → countSteps F ≤ length page
           → (t : Bool) → still (countSteps F) p ≡ t
           → CountInv (story ++ (e ∷ [])) (suc now)
           (set page (getD (countOrder F) (length (p .steps)) 0)
-          (getD (countDigits F (p .what .0)) (length (p .steps)) 0)) t
+          (getD (countDigits F (p .what)) (length (p .steps)) 0)) t
           (on p (suc now) ∷ ps) sts mine xs
       count-step p inv e time big t s =
           count-writer story now page true (p ∷ ps) sts mine xs inv e time _ t _
           (step-grow num (countSteps F) x sizePos now p ps (inv .fit) t s)
           (step-fit num (countSteps F) x sizePos now p ps (inv .fit) t s) (inv .below .1)
-          (holds-set (countSteps F) (countOrder F) (countDigits F) page (cur num true x (p ∷ ps)) _ (length (p .steps))
+          (holds-set (countSteps F) (countOrder F) (countImage F) page (cur num true x (p ∷ ps)) _ (length (p .steps))
           (p .what .0)
           (count-apart F) (λ k g. le-trans (count-below F k g) big) (inv .fit .0)
           (step-here num (countSteps F) x sizePos now p ps (inv .fit) t s)

@@ -13,16 +13,15 @@ use Rattle.radix.specs.declared.Comparison.the-variants.{Equal, Parted, Crossed
 use Rattle.radix.proofs.Theorems.Span.{Spans}
 use Rattle.radix.proofs.Theorems.Reads.{Reads, Up, Down, span-reads}
 use Rattle.protocol.specs.Form.{Form, m, countSteps}
-use Rattle.protocol.specs.Layout.{countDigits}
 use Rattle.protocol.specs.Step.{copyA, copyB}
 use Rattle.protocol.proofs.Lists.Places.{getD-reverse}
-use Rattle.protocol.proofs.Positions.Counts.{countDigitLow, countDigitHigh}
+use Rattle.protocol.proofs.Positions.Counts.{countImage, countDigitLow, countDigitHigh}
 use Rattle.protocol.proofs.Items.Seen.{Fell, seen, seen-digit, seen-hi, seen-lo, seen-falls}
 
 -- both ends lie between lo and hi, and the copies are not crossed
 abbrev pub Within : (bs : List ℕ) (lo hi : ℕ) (a b : List ℕ) → Comparison → Type 0
 Within bs lo hi a b Equal = (lo ≤ value bs a) × (value bs a ≤ hi)
-Within bs lo hi a b (Parted p) = (lo ≤ lowEnd bs p a) × (lowEnd bs p a < highEnd bs p b) × (highEnd bs p b ≤ hi)
+Within bs lo hi a b (Parted p) = (lo ≤ lowEnd bs p a .0) × (lowEnd bs p a .0 < highEnd bs p b .0) × (highEnd bs p b .0 ≤ hi)
 Within bs lo hi a b Crossed = ⊥
 
 widen :
@@ -34,7 +33,7 @@ widen bs lo lo′ mid hi hi′ a b Crossed h g s = s
 
 module _ (F : Form) (pos : 0 < m F) where
   pub spanned :
-      (ds : List ℕ) (lo hi : ℕ) → Fell (countDigits F) 0 ds lo hi → length ds ≡ countSteps F → hi < product (F .bases) →
+      (ds : List ℕ) (lo hi : ℕ) → Fell (countImage F) 0 ds lo hi → length ds ≡ countSteps F → hi < product (F .bases) →
       Within (F .bases) lo hi (copyA (m F) ds) (copyB (m F) ds) (compare (copyA (m F) ds) (copyB (m F) ds))
   spanned ds lo hi f size below =
       widen (F .bases) (seen f (m F + (m F - 1))) lo (seen f (m F)) (seen f 0) hi (copyA (m F) ds) (copyB (m F) ds)

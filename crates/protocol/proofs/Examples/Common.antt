@@ -144,7 +144,7 @@ abbrev pub wroteCount : ℕ → List ℕ → Write Count
 wroteCount c ts = record { what = count c; steps = ts }
 
 abbrev pub wroteRecord : (place : ℕ) → List ℕ → List ℕ → Write Placed
-wroteRecord i r ts = record { what = placed i r; steps = ts }
+wroteRecord i r ts = record { what = placed (record { 0 = i }) r; steps = ts }
 
 abbrev pub readCount : (reader : ℕ) → List ℕ → CountRead
 readCount r ts = record { reader = r; steps = ts }

@@ -1,6 +1,7 @@
 -- A count's positions and digits in writing order: what stands at each index, and that no position is named twice.
 use mathlib.Core.Path.{_≡_, refl, sym, _∙_}
 use mathlib.Core.Logic.{_⊎_, inl, inr}
+use mathlib.Core.List.{List}
 use mathlib.Core.Bool.{Bool, true, false}
 use Prim.Native.Nat.{ℕ, suc, _+_, _-_, _≤_, _<_}
 use native.Mathlib.Omega.{arith}
@@ -12,6 +13,10 @@ use Rattle.radix.proofs.Theorems.RoundTrip.{length-digits}
 use Rattle.protocol.specs.Form.{Form, m, countSteps}
 use Rattle.protocol.specs.Layout.{c1, c2, countOrder, countDigits, countReadOrder}
 use Rattle.protocol.proofs.Lists.Places.{length-range, getD-range, getD-reverse, getD-right, getD-past}
+
+-- what a count write puts, by the number alone: numbers that are seen are of no sort
+abbrev pub countImage : Form → ℕ → List ℕ
+countImage F x = countDigits F (record { 0 = x })
 
 module _ (F : Form) where
   pub countLow : (k : ℕ) → k < m F → getD (countOrder F) k 0 ≡ m F + k
@@ -72,13 +77,13 @@ module _ (F : Form) where
   countRead i p h = getD-reverse (countOrder F) 0 i p (h ∙ sym length-countOrder)
 
   -- a count's digits
-  pub countDigitLow : (c k : ℕ) → k < m F → getD (countDigits F c) k 0 ≡ getD (digits (F .bases) c) k 0
+  pub countDigitLow : (c k : ℕ) → k < m F → getD (countImage F c) k 0 ≡ getD (digits (F .bases) c) k 0
   unfolding countDigits
   countDigitLow c k h =
       List·getD-append (digits (F .bases) c) _ 0 k (omega (arith, length-digits (F .bases) c))
 
   pub countDigitHigh :
-      (c k j : ℕ) → suc (k + j) ≡ m F → getD (countDigits F c) (m F + k) 0 ≡ getD (digits (F .bases) c) j 0
+      (c k j : ℕ) → suc (k + j) ≡ m F → getD (countImage F c) (m F + k) 0 ≡ getD (digits (F .bases) c) j 0
   unfolding countDigits
   countDigitHigh c k j h =
       getD-right (digits (F .bases) c) _ 0 (m F) k (length-digits (F .bases) c)

@@ -14,6 +14,10 @@ use Rattle.protocol.specs.Form.{Form, m, versionBases, countSteps, recor
 use Rattle.protocol.specs.Layout.{v1, v2, content, recordOrder, recordDigits, attemptOrder}
 use Rattle.protocol.proofs.Lists.Places.{length-range, getD-range, getD-reverse, getD-right, getD-past}
 
+-- what a record write puts, by the number alone
+abbrev pub recordImage : Form → ℕ → List ℕ → List ℕ
+recordImage F x r = recordDigits F (record { 0 = x }) r
+
 module _ (F : Form) where
   abbrev base : ℕ
   base = m F + m F
@@ -141,13 +145,13 @@ module _ (F : Form) where
     pub length-start : length (digits (versionBases F) v ++ r) ≡ F .q + F .n
     length-start = length-append version r ∙ omega (arith, length-version v)
 
-    pub recordDigitLow : (k : ℕ) → k < F .q → getD (recordDigits F v r) k 0 ≡ getD (digits (versionBases F) v) k 0
+    pub recordDigitLow : (k : ℕ) → k < F .q → getD (recordImage F v r) k 0 ≡ getD (digits (versionBases F) v) k 0
     unfolding recordDigits
     recordDigitLow k h =
         List·getD-append (version ++ r) _ 0 k (omega (arith, length-start))
         ∙ List·getD-append version r 0 k (omega (arith, length-version v))
 
-    pub recordDigitMid : (k : ℕ) → k < F .n → getD (recordDigits F v r) (F .q + k) 0 ≡ getD r k 0
+    pub recordDigitMid : (k : ℕ) → k < F .n → getD (recordImage F v r) (F .q + k) 0 ≡ getD r k 0
     unfolding recordDigits
     recordDigitMid k h =
         List·getD-append (version ++ r) _ 0 (F .q + k) (omega (arith, length-start))
@@ -155,7 +159,7 @@ module _ (F : Form) where
 
     pub recordDigitHigh :
         (k j : ℕ) → suc (k + j) ≡ F .q →
-        getD (recordDigits F v r) (F .q + F .n + k) 0 ≡ getD (digits (versionBases F) v) j 0
+        getD (recordImage F v r) (F .q + F .n + k) 0 ≡ getD (digits (versionBases F) v) j 0
     unfolding recordDigits
     recordDigitHigh k j h =
         getD-right (version ++ r) _ 0 front k length-start

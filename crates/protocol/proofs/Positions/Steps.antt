@@ -9,15 +9,14 @@ use Rattle.radix.specs.Digits.{digits}
 use Rattle.protocol.specs.Form.{Form, m, versionBases, countSteps, recordSteps}
 use Rattle.protocol.specs.Layout.{
   countOrder,
-  countDigits,
   countReadOrder,
   recordOrder,
-  recordDigits,
   attemptOrder,
 }
 use Rattle.protocol.proofs.Lists.Places.{getD-past}
-use Rattle.protocol.proofs.Positions.Counts.{countLow, countHigh, countRead, countDigitLow, countDigitHigh}
+use Rattle.protocol.proofs.Positions.Counts.{countImage, countLow, countHigh, countRead, countDigitLow, countDigitHigh}
 use Rattle.protocol.proofs.Positions.Records.{
+  recordImage,
   recordLow,
   recordHigh,
   readV2,
@@ -37,12 +36,12 @@ module _ (F : Form) where
   pub count-read : (i p : ℕ) → suc (i + p) ≡ countSteps F → getD (countReadOrder F) i 0 ≡ getD (countOrder F) p 0
   count-read = countRead F
 
-  pub digit-low : (c k : ℕ) → k < m F → getD (countDigits F c) k 0 ≡ getD (digits (F .bases) c) k 0
+  pub digit-low : (c k : ℕ) → k < m F → getD (countImage F c) k 0 ≡ getD (digits (F .bases) c) k 0
   digit-low = countDigitLow F
 
   pub digit-high : (c k j : ℕ) → m F ≤ k → suc (k + j) ≡ countSteps F
-      → getD (countDigits F c) k 0 ≡ getD (digits (F .bases) c) j 0
-  digit-high c k j h e = getD-past (countDigits F c) 0 (m F) k h ∙ countDigitHigh F c (k - m F) j (omega arith)
+      → getD (countImage F c) k 0 ≡ getD (digits (F .bases) c) j 0
+  digit-high c k j h e = getD-past (countImage F c) 0 (m F) k h ∙ countDigitHigh F c (k - m F) j (omega arith)
 
   -- a record write: v1 and the bytes, then v2 from its end
   pub record-before : (k : ℕ) → k < F .q → getD (recordOrder F) k 0 ≡ m F + m F + k
@@ -68,11 +67,11 @@ module _ (F : Form) where
 
   -- the digits of a record write
   module _ (v : ℕ) (r : List ℕ) (size : length r ≡ F .n) where
-    pub version-before : (k : ℕ) → k < F .q → getD (recordDigits F v r) k 0 ≡ getD (digits (versionBases F) v) k 0
+    pub version-before : (k : ℕ) → k < F .q → getD (recordImage F v r) k 0 ≡ getD (digits (versionBases F) v) k 0
     version-before = recordDigitLow F v r size
 
     pub version-after : (k j : ℕ) → F .q + F .n ≤ k → suc (k + j) ≡ recordSteps F
-        → getD (recordDigits F v r) k 0 ≡ getD (digits (versionBases F) v) j 0
+        → getD (recordImage F v r) k 0 ≡ getD (digits (versionBases F) v) j 0
     version-after k j h e =
-        getD-past (recordDigits F v r) 0 (F .q + F .n) k h
+        getD-past (recordImage F v r) 0 (F .q + F .n) k h
         ∙ recordDigitHigh F v r size (k - (F .q + F .n)) j (omega arith)

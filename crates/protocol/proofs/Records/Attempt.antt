@@ -11,13 +11,14 @@ use lib.ListN.{length, getD, set}
 use lib.Seq.{getD-set-same, getD-set-other}
 use borrow.Author.Tests.{ltb-true, ltb-false}
 use Rattle.protocol.specs.Form.{Form, recordSteps}
-use Rattle.protocol.specs.Layout.{recordOrder, recordDigits, attemptOrder}
-use Rattle.protocol.specs.History.{Write, Placed, placed}
+use Rattle.protocol.specs.Layout.{recordOrder, attemptOrder}
+use Rattle.protocol.specs.History.{Write, Placed, openingPlace, placed}
 use Rattle.protocol.specs.Demand.{firstOf}
 use Rattle.protocol.proofs.Items.Times.{desc-now, first-le, first-more}
 use Rattle.protocol.proofs.Items.Writes.{Fit, cur-falls, cur-last}
 use Rattle.protocol.proofs.Items.Seen.{Holds, Fell, fell-up}
 use Rattle.protocol.proofs.Positions.Records.{
+  recordImage,
   readV2,
   readByte,
   readV1,
@@ -39,7 +40,7 @@ module _ (F : Form) (r₀ : List ℕ) (pos : 0 < F .q) (posn : 0 < F .n) (size�
   -- a version's digits do not depend on the record beside them
   zone-high :
       (v : ℕ) (r : List ℕ) → length r ≡ F .n → (p : ℕ) → F .q + F .n ≤ p → p < recordSteps F →
-      getD (recordDigits F v r) p 0 ≡ getD (image v) p 0
+      getD (recordImage F v r) p 0 ≡ getD (image v) p 0
   zone-high v r e p h g =
       let s : p ≡ F .q + F .n + (p - (F .q + F .n)) = omega arith in
       rw s
@@ -48,18 +49,18 @@ module _ (F : Form) (r₀ : List ℕ) (pos : 0 < F .q) (posn : 0 < F .n) (size�
 
   zone-low :
       (v : ℕ) (r : List ℕ) → length r ≡ F .n → (p : ℕ) → p < F .q →
-      getD (recordDigits F v r) p 0 ≡ getD (image v) p 0
+      getD (recordImage F v r) p 0 ≡ getD (image v) p 0
   zone-low v r e p h = recordDigitLow F v r e p h ∙ sym (recordDigitLow F v r₀ size₀ p h)
 
   module _ (now : ℕ) (b : Bool) (ps : List (Write Placed))
-      (fit : Fit number (recordSteps F) now (placed 0 r₀) b ps) (num : Numbered F ps) (page : List ℕ)
+      (fit : Fit number (recordSteps F) now (placed openingPlace r₀) b ps) (num : Numbered F ps) (page : List ℕ)
       (holds :
-      Holds (recordSteps F) (recordOrder F) (λ v. recordDigits F v (recordAs r₀ ps v)) page (current r₀ b ps)) where
+      Holds (recordSteps F) (recordOrder F) (λ v. recordImage F v (recordAs r₀ ps v)) page (current r₀ b ps)) where
     abbrev c : ℕ → ℕ
     c = current r₀ b ps
 
     falls : (j k : ℕ) → j ≤ k → c k ≤ c j
-    falls = cur-falls number (recordSteps F) (placed 0 r₀) sizePos now b ps fit
+    falls = cur-falls number (recordSteps F) (placed openingPlace r₀) sizePos now b ps fit
 
     size-at : (v : ℕ) → length (recordAs r₀ ps v) ≡ F .n
     size-at v = record-size F r₀ ps v size₀ num
@@ -98,7 +99,7 @@ module _ (F : Form) (r₀ : List ℕ) (pos : 0 < F .q) (posn : 0 < F .n) (size�
       fell-next s d [] [] e l f p h q =
           Fell.more q (le-refl _)
           (Fell.none
-          (le-of-eq (sym (cur-last number (recordSteps F) (placed 0 r₀) sizePos now b ps fit p (omega arith)))))
+          (le-of-eq (sym (cur-last number (recordSteps F) (placed openingPlace r₀) sizePos now b ps fit p (omega arith)))))
       fell-next s d [] (t ∷ ts) e l f p h q = absurd (omega arith)
       fell-next s d (a ∷ ds) [] e l f p h q = absurd (omega arith)
       fell-next s d (a ∷ ds) (t ∷ ts) e l f p h q =

@@ -11,7 +11,7 @@ use Rattle.protocol.specs.Lists.{All}
 use Rattle.protocol.specs.Form.{Form, recordSteps}
 use Rattle.protocol.specs.State.{Reading}
 use Rattle.protocol.specs.Run.{Event}
-use Rattle.protocol.specs.History.{Write, Placed, placed, Attempt, History}
+use Rattle.protocol.specs.History.{Write, Placed, openingPlace, placed, Attempt, History}
 use Rattle.protocol.specs.Demand.{
   lastOf,
   firstOf,
@@ -130,7 +130,7 @@ module _ (F : Form) (r₀ : List ℕ) (pos : 0 < recordSteps F) (mid : F .q + F 
       (λ y p n.
       p .calm
       (ap number
-      (agree (recordSteps F) pos (h .now) y (p .times .0) (placed 0 r₀) (h .records)
+      (agree (recordSteps F) pos (h .now) y (p .times .0) (placed openingPlace r₀) (h .records)
       (fit-desc F r₀ (h .now) b (h .records) (inv .fit)) n)))
       (inv .pasts)
 

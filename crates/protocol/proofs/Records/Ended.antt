@@ -9,7 +9,7 @@ use lib.Seq.{take-at, drop-at, ext-getD}
 use Rattle.radix.specs.Digits.{product, value}
 use Rattle.protocol.specs.Form.{Form, versionBases, recordSteps}
 use Rattle.protocol.specs.Step.{copyA, copyB}
-use Rattle.protocol.specs.History.{Write, Placed, placed}
+use Rattle.protocol.specs.History.{Write, Placed, openingPlace, placed}
 use Rattle.protocol.specs.Demand.{firstOf, begunBefore, latest}
 use Rattle.protocol.proofs.Items.Writes.{Fit, cur-first}
 use Rattle.protocol.proofs.Items.Seen.{Fell, fell-le}
@@ -44,12 +44,12 @@ module _ (F : Form) (r₀ : List ℕ) where
 
   pub record Ended (now : ℕ) (ps : List (Write Placed)) (G : List Mark) (r : ℕ) (ds ts buffer : List ℕ) : Type 0 where
     pub calm :
-        completeBefore F r₀ ps ts ≡ number (latest (begunBefore (suc now)) (placed 0 r₀) ps) →
+        completeBefore F r₀ ps ts ≡ number (latest (begunBefore (suc now)) (placed openingPlace r₀) ps) →
         versionB F ds ≡ versionA F ds
     pub good : versionB F ds ≡ versionA F ds → Taken now ps G r (versionB F ds) ts buffer
 
   module _ (pos : 0 < F .q) (size₀ : length r₀ ≡ F .n) (room : 0 < product (versionBases F)) (now : ℕ) (b : Bool)
-      (ps : List (Write Placed)) (fit : Fit number (recordSteps F) now (placed 0 r₀) b ps)
+      (ps : List (Write Placed)) (fit : Fit number (recordSteps F) now (placed openingPlace r₀) b ps)
       (num : Numbered F ps) (G : List Mark) (r : ℕ) (ds ts buffer : List ℕ) (size : length buffer ≡ F .n) where
     abbrev c : ℕ → ℕ
     c = current r₀ b ps
@@ -98,7 +98,7 @@ module _ (F : Form) (r₀ : List ℕ) where
         go (late I J t zero d2 d1 z a f at k y g) = record {
           calm = λ e. rw (isB, isA)
               (still-equal I J d2 d1 f g (a .1) l1 (a .4)
-              (e ∙ sym (cur-first number (recordSteps F) (placed 0 r₀) (omega arith) now b ps fit)));
+              (e ∙ sym (cur-first number (recordSteps F) (placed openingPlace r₀) (omega arith) now b ps fit)));
           good = λ e. rw (ap (value (versionBases F)) isB) (taken (rw (isB, isA) at e));
         }
           where

@@ -10,7 +10,7 @@ use Rattle.protocol.specs.Form.{Form, recordSteps}
 use Rattle.protocol.specs.State.{Reading, idle, ofCount, ofRecord, bufferOf}
 use Rattle.protocol.specs.Outcome.{isAccepted}
 use Rattle.protocol.specs.Run.{Event}
-use Rattle.protocol.specs.History.{Write, Placed, placed, Read, Attempt}
+use Rattle.protocol.specs.History.{Write, Placed, openingPlace, placed, Read, Attempt}
 use Rattle.protocol.specs.Demand.{lastOf, firstOf, outcomeAt, bufferAt, Ends}
 use Rattle.protocol.specs.declared.Outcome.{Outcome}
 use Rattle.protocol.specs.declared.Outcome.the-variants.{Nothing, Shown, Accepted, GaveUp}
@@ -44,7 +44,7 @@ ends-old F story e y l (GaveUp r k) h =
 module _ (F : Form) (r₀ : List ℕ) where
   pub record Ext (ok : ℕ → Type 0) (now : ℕ) (b : Bool) (ps : List (Write Placed)) (G : List Mark)
       (b′ : Bool) (ps′ : List (Write Placed)) (G′ : List Mark) : Type 0 where
-    pub grow : Grow number (recordSteps F) (placed 0 r₀) now b ps b′ ps′
+    pub grow : Grow number (recordSteps F) (placed openingPlace r₀) now b ps b′ ps′
     pub longer : length ps ≤ length ps′
     pub content : (v : ℕ) → v ≤ length ps → recordAs r₀ ps′ v ≡ recordAs r₀ ps v
     pub keeps : Keeps ok now G G′

@@ -10,7 +10,7 @@ use borrow.Author.Tests.{eq-eqb, ne-eqb}
 use Rattle.radix.specs.declared.Place.{Place}
 use Rattle.radix.specs.Digits.{product}
 use Rattle.protocol.specs.Form.{Form, versionBases}
-use Rattle.protocol.specs.History.{Write, Placed, placed}
+use Rattle.protocol.specs.History.{Write, Placed, openingPlace, placed}
 use Rattle.protocol.specs.Demand.{latest, recordOf}
 use Rattle.protocol.proofs.Lists.Cases.{by-cond}
 use Rattle.protocol.proofs.Items.Writes.{top, cur}
@@ -21,13 +21,13 @@ number p = p .place .0
 module _ (r₀ : List ℕ) where
   -- the number of the last write; the number that stands at position k; the record with a number
   abbrev pub topRecord : List (Write Placed) → ℕ
-  topRecord ps = top number (placed 0 r₀) ps
+  topRecord ps = top number (placed openingPlace r₀) ps
 
   abbrev pub current : Bool → List (Write Placed) → ℕ → ℕ
-  current b ps = cur number b (placed 0 r₀) ps
+  current b ps = cur number b (placed openingPlace r₀) ps
 
   abbrev placedAs : List (Write Placed) → ℕ → Placed
-  placedAs ps v = latest (λ p. eqb (number (p .what)) v) (placed 0 r₀) ps
+  placedAs ps v = latest (λ p. eqb (number (p .what)) v) (placed openingPlace r₀) ps
 
   abbrev pub recordAs : List (Write Placed) → ℕ → List ℕ
   recordAs ps v = recordOf r₀ ps (record { 0 = v })

@@ -6,13 +6,14 @@ use Prim.Native.Nat.{ℕ, _+_, _≤_, _<_}
 use lib.ListN.{length, getD}
 use Rattle.protocol.specs.Lists.{All}
 use Rattle.protocol.specs.Form.{Form, recordSteps}
-use Rattle.protocol.specs.Layout.{recordOrder, recordDigits}
+use Rattle.protocol.specs.Layout.{recordOrder}
 use Rattle.protocol.specs.State.{Reading, idle}
 use Rattle.protocol.specs.Outcome.{isAccepted}
 use Rattle.protocol.specs.Run.{Event}
-use Rattle.protocol.specs.History.{Write, Placed, placed, Read, Attempt}
+use Rattle.protocol.specs.History.{Write, Placed, openingPlace, placed, Read, Attempt}
 use Rattle.protocol.specs.Demand.{lastOf, firstOf, begunBefore, latest, outcomeAt, bufferAt, Ends}
 use Rattle.protocol.specs.declared.Outcome.the-variants.{Accepted}
+use Rattle.protocol.proofs.Positions.Records.{recordImage}
 use Rattle.protocol.proofs.Items.Writes.{Fit}
 use Rattle.protocol.proofs.Items.Seen.{Holds}
 use Rattle.protocol.proofs.Linearization.Marks.{Mark, fixed, tookAt, At}
@@ -37,7 +38,7 @@ module _ (F : Form) (r₀ : List ℕ) where
     pub times :
         (firstOf (y .steps) ≤ lastOf (y .steps)) × (1 ≤ lastOf (y .steps)) × (lastOf (y .steps) ≤ now)
     pub calm :
-        completeBefore F r₀ ps (y .steps) ≡ number (latest (begunBefore (lastOf (y .steps))) (placed 0 r₀) ps) →
+        completeBefore F r₀ ps (y .steps) ≡ number (latest (begunBefore (lastOf (y .steps))) (placed openingPlace r₀) ps) →
         isAccepted (outcomeAt story (lastOf (y .steps))) ≡ true
     pub good : y .accepted ≡ true → Took story ps G y
     pub ends : Ends F story y (outcomeAt story (lastOf (y .steps)))
@@ -45,10 +46,10 @@ module _ (F : Form) (r₀ : List ℕ) where
   -- the page holds the record writes' digits and bytes, each position those of the number that stands there
   abbrev pub HoldsRecords : List ℕ → Bool → List (Write Placed) → Type 0
   HoldsRecords page b ps =
-      Holds (recordSteps F) (recordOrder F) (λ v. recordDigits F v (recordAs r₀ ps v)) page (current r₀ b ps)
+      Holds (recordSteps F) (recordOrder F) (λ v. recordImage F v (recordAs r₀ ps v)) page (current r₀ b ps)
 
   abbrev pub FitRecords : ℕ → Bool → List (Write Placed) → Type 0
-  FitRecords now b ps = Fit number (recordSteps F) now (placed 0 r₀) b ps
+  FitRecords now b ps = Fit number (recordSteps F) now (placed openingPlace r₀) b ps
 
   -- b: a record write is pending; G: the order in the making
   pub record RecordInv (story : List Event) (now : ℕ) (page : List ℕ) (b : Bool) (ps : List (Write Placed))

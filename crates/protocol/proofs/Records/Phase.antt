@@ -5,10 +5,10 @@ use Prim.Native.Nat.{ℕ, _+_, _-_, _≤_, _<_}
 use native.Mathlib.Omega.{arith}
 use lib.ListN.{length, getD}
 use Rattle.protocol.specs.Form.{Form, recordSteps}
-use Rattle.protocol.specs.Layout.{recordDigits}
 use Rattle.protocol.specs.State.{Reading, idle, ofCount, ofRecord}
-use Rattle.protocol.specs.History.{Write, Placed, placed, Read}
+use Rattle.protocol.specs.History.{Write, Placed, openingPlace, placed, Read}
 use Rattle.protocol.specs.Demand.{firstOf, writtenBefore, latest}
+use Rattle.protocol.proofs.Positions.Records.{recordImage}
 use Rattle.protocol.proofs.Items.Times.{Desc}
 use Rattle.protocol.proofs.Items.Seen.{Fell}
 use Rattle.protocol.proofs.Linearization.Marks.{Mark, pending, At}
@@ -17,11 +17,11 @@ use Rattle.protocol.proofs.Records.Numbered.{number, recordAs}
 module _ (F : Form) (r₀ : List ℕ) where
   -- a version's digits are the same beside any record
   abbrev pub versionImage : ℕ → List ℕ
-  versionImage v = recordDigits F v r₀
+  versionImage v = recordImage F v r₀
 
   -- the number of the last record write that is complete before the attempt begins
   abbrev pub completeBefore : List (Write Placed) → List ℕ → ℕ
-  completeBefore ps ts = number (latest (writtenBefore (recordSteps F) (firstOf ts)) (placed 0 r₀) ps)
+  completeBefore ps ts = number (latest (writtenBefore (recordSteps F) (firstOf ts)) (placed openingPlace r₀) ps)
 
   -- the first k bytes: each of a record whose number lies from I to J
   abbrev pub Bytes : List (Write Placed) → List ℕ → ℕ → ℕ → ℕ → Type 0

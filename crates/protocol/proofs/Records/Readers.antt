@@ -14,7 +14,7 @@ use Rattle.protocol.specs.Form.{Form, countSteps, recordSteps}
 use Rattle.protocol.specs.Layout.{recordOrder}
 use Rattle.protocol.specs.State.{Reading, idle}
 use Rattle.protocol.specs.Run.{Event}
-use Rattle.protocol.specs.History.{Write, Placed, placed, Read, Attempt}
+use Rattle.protocol.specs.History.{Write, Placed, openingPlace, placed, Read, Attempt}
 use Rattle.protocol.proofs.Lists.Cases.{all-map}
 use Rattle.protocol.proofs.Positions.Records.{record-within}
 use Rattle.protocol.proofs.Items.Writes.{fit-later, same-grow}
@@ -31,7 +31,7 @@ module _ (F : Form) (r₀ : List ℕ) (pos : 0 < recordSteps F) where
       (ok : ℕ → Type 0) (now : ℕ) (b : Bool) (ps : List (Write Placed)) (G G′ : List Mark) → Keeps ok now G G′ →
       Ext F r₀ ok now b ps G b ps G′
   ext-same ok now b ps G G′ k = record {
-    grow = same-grow number (recordSteps F) (placed 0 r₀) pos now b ps;
+    grow = same-grow number (recordSteps F) (placed openingPlace r₀) pos now b ps;
     longer = le-refl _;
     content = λ v h. refl;
     keeps = k;
@@ -60,7 +60,7 @@ module _ (F : Form) (r₀ : List ℕ) (pos : 0 < recordSteps F) where
         RecordInv F r₀ (story ++ (e ∷ [])) (suc now) page b ps (set readings r st) (set reads r rd)
         (set buffers r buffer) ys′ G′
     record-reader r st rd buffer ys′ G′ h g l size k rel pasts ord = record {
-      fit = fit-later number (recordSteps F) (placed 0 r₀) pos now b ps (inv .fit);
+      fit = fit-later number (recordSteps F) (placed openingPlace r₀) pos now b ps (inv .fit);
       numbered = inv .numbered;
       holds = inv .holds;
       buffered = λ i q. sized i q (ℕ-discrete i r);
@@ -117,7 +117,7 @@ module _ (F : Form) (r₀ : List ℕ) (pos : 0 < recordSteps F) where
         RecordInv F r₀ (story ++ (e ∷ [])) (suc now) page′ b ps readings reads buffers ys G
     record-page page′ holds =
         record-writer page′ b ps G (ext-same (λ i. Unit {0}) now b ps G G (keeps-same _ now G))
-        (fit-later number (recordSteps F) (placed 0 r₀) pos now b ps (inv .fit)) (inv .numbered) holds
+        (fit-later number (recordSteps F) (placed openingPlace r₀) pos now b ps (inv .fit)) (inv .numbered) holds
         (ord-later F now (current r₀ b ps (F .q + F .n)) ps ys G (inv .ord))
 
     pub record-same : RecordInv F r₀ (story ++ (e ∷ [])) (suc now) page b ps readings reads buffers ys G

@@ -12,7 +12,7 @@ use Rattle.protocol.specs.Layout.{recordOrder, recordDigits}
 use Rattle.protocol.specs.State.{idle, opened}
 use Rattle.protocol.specs.History.{fresh}
 use Rattle.protocol.proofs.Lists.Places.{getD-all}
-use Rattle.protocol.proofs.Positions.Records.{RecordAt, recordAt, length-start}
+use Rattle.protocol.proofs.Positions.Records.{recordImage, RecordAt, recordAt, length-start}
 use Rattle.protocol.proofs.Positions.Steps.{version-after}
 use Rattle.protocol.proofs.Positions.Opened.{D, P, opened-front, opened-v2}
 use Rattle.protocol.proofs.Records.Linearization.{ord-start}
@@ -26,7 +26,7 @@ module _ (F : Form) (c : Count) (r₀ : List ℕ) (size₀ : length r₀ ≡ F .
   unfolding recordDigits
   holds-start k h = go (recordAt F k h)
     where
-      go : RecordAt F k → getD page (getD (recordOrder F) k 0) 0 ≡ getD (recordDigits F 0 r₀) k 0
+      go : RecordAt F k → getD page (getD (recordOrder F) k 0) 0 ≡ getD (recordImage F 0 r₀) k 0
       go (inl a) =
           ap (λ i. getD page i 0) (a .1)
           ∙ opened-front F (c .0) r₀ size₀ k (a .0)

@@ -8,14 +8,13 @@ use lib.ListN.{length, length-reverse}
 use Rattle.radix.specs.Digits.{product, value}
 use Rattle.radix.proofs.Theorems.Reads.{Reads, reads-below, reads-above}
 use Rattle.protocol.specs.Form.{Form, versionBases}
-use Rattle.protocol.specs.Layout.{recordDigits}
 use Rattle.protocol.proofs.Lists.Places.{getD-reverse}
-use Rattle.protocol.proofs.Positions.Records.{length-versionBases, recordDigitLow, recordDigitHigh}
+use Rattle.protocol.proofs.Positions.Records.{recordImage, length-versionBases, recordDigitLow, recordDigitHigh}
 use Rattle.protocol.proofs.Items.Seen.{Fell, seen, seen-digit, seen-hi, seen-lo, seen-falls}
 
 module _ (F : Form) (pos : 0 < F .q) (r : List ℕ) (size : length r ≡ F .n) where
   abbrev pub image : ℕ → List ℕ
-  image v = recordDigits F v r
+  image v = recordImage F v r
 
   abbrev bs : List ℕ
   bs = versionBases F

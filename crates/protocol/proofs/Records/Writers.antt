@@ -11,12 +11,13 @@ use borrow.Author.Tests.{le-ltb}
 use Rattle.radix.specs.Digits.{product, value, digits}
 use Rattle.radix.proofs.Theorems.RoundTrip.{value-digits}
 use Rattle.protocol.specs.Form.{Form, m, versionBases, countSteps, recordSteps}
-use Rattle.protocol.specs.Layout.{v1, look, recordOrder, recordDigits}
+use Rattle.protocol.specs.Layout.{v1, look, recordOrder}
 use Rattle.protocol.specs.State.{Reading}
 use Rattle.protocol.specs.Run.{Event}
-use Rattle.protocol.specs.History.{Write, Placed, placed, begun, Read, Attempt}
+use Rattle.protocol.specs.History.{Write, Placed, openingPlace, placed, begun, Read, Attempt}
 use Rattle.protocol.proofs.Lists.Places.{look-is}
 use Rattle.protocol.proofs.Positions.Records.{
+  recordImage,
   recordLow,
   record-apart,
   record-within,
@@ -58,7 +59,7 @@ module _ (F : Form) (r₀ : List ℕ) (pos : 0 < recordSteps F) where
   w = recordSteps F
 
   abbrev x₀ : Placed
-  x₀ = placed 0 r₀
+  x₀ = placed openingPlace r₀
 
   module _ (story : List Event) (now : ℕ) (page : List ℕ) (ps : List (Write Placed)) (readings : List Reading)
       (reads : List Read) (buffers : List (List ℕ)) (ys : List Attempt) (G : List Mark) where
@@ -82,10 +83,10 @@ module _ (F : Form) (r₀ : List ℕ) (pos : 0 < recordSteps F) where
       pub record-begin :
           RecordInv F r₀ story now page false ps readings reads buffers ys G → (r : List ℕ) → length r ≡ F .n →
           suc (length ps) < product (versionBases F) →
-          RecordInv F r₀ (story ++ (e ∷ [])) (suc now) page true (begun (placed (suc (length ps)) r) ∷ ps) readings
+          RecordInv F r₀ (story ++ (e ∷ [])) (suc now) page true (begun (placed (record { 0 = suc (length ps) }) r) ∷ ps) readings
           reads buffers ys G
       record-begin inv r l h =
-          let x : Placed = placed (suc (length ps)) r in
+          let x : Placed = placed (record { 0 = suc (length ps) }) r in
           let T : topRecord r₀ ps ≡ length ps = numbered-top F r₀ ps (inv .numbered) in
           record-writer F r₀ pos story now page false ps readings reads buffers ys G inv e time page true
           (begun x ∷ ps) G
@@ -110,7 +111,7 @@ module _ (F : Form) (r₀ : List ℕ) (pos : 0 < recordSteps F) where
       abbrev written : Write Placed → List ℕ
       written p =
           set page (getD (recordOrder F) (length (p .steps)) 0)
-          (getD (recordDigits F (number (p .what)) (p .what .content)) (length (p .steps)) 0)
+          (getD (recordImage F (number (p .what)) (p .what .content)) (length (p .steps)) 0)
 
       pub record-step :
           (p : Write Placed) → RecordInv F r₀ story now page true (p ∷ ps) readings reads buffers ys G →
@@ -119,7 +120,7 @@ module _ (F : Form) (r₀ : List ℕ) (pos : 0 < recordSteps F) where
           (G′ : List Mark)
           × RecordInv F r₀ (story ++ (e ∷ [])) (suc now)
           (set page (getD (recordOrder F) (length (p .steps)) 0)
-          (getD (recordDigits F (number (p .what)) (p .what .content)) (length (p .steps)) 0)) t
+          (getD (recordImage F (number (p .what)) (p .what .content)) (length (p .steps)) 0)) t
           (on p (suc now) ∷ ps) readings reads buffers ys G′
       record-step p inv big mid t s = go (ℕ-discrete (length (p .steps)) (F .q + F .n))
         where
@@ -142,9 +143,9 @@ module _ (F : Form) (r₀ : List ℕ) (pos : 0 < recordSteps F) where
               (λ (x : List ℕ).
               HoldsRecords F r₀
               (set page (getD (recordOrder F) (length (p .steps)) 0)
-              (getD (recordDigits F (number (p .what)) x) (length (p .steps)) 0)) t (on p (suc now) ∷ ps))
+              (getD (recordImage F (number (p .what)) x) (length (p .steps)) 0)) t (on p (suc now) ∷ ps))
               (record-new F r₀ p ps)
-              (holds-set w (recordOrder F) (λ v. recordDigits F v (recordAs r₀ (p ∷ ps) v)) page
+              (holds-set w (recordOrder F) (λ v. recordImage F v (recordAs r₀ (p ∷ ps) v)) page
               (current r₀ true (p ∷ ps)) (current r₀ t (on p (suc now) ∷ ps)) (length (p .steps))
               (number (p .what)) (record-apart F) (λ k g. omega (arith, record-within F k g)) (fit .0)
               (step-here number w x₀ pos now p ps fit t s) (step-there number w x₀ pos now p ps fit t s)

@@ -17,7 +17,7 @@ use Rattle.protocol.specs.History.{Read, fresh}
 use Rattle.protocol.specs.Demand.{rests, idles}
 use Rattle.protocol.specs.declared.Ending.the-variants.{Finished}
 use Rattle.protocol.proofs.Lists.Places.{getD-all}
-use Rattle.protocol.proofs.Positions.Counts.{CountAt, countAt, countDigitLow}
+use Rattle.protocol.proofs.Positions.Counts.{countImage, CountAt, countAt, countDigitLow}
 use Rattle.protocol.proofs.Positions.Steps.{digit-high}
 use Rattle.protocol.proofs.Positions.Opened.{P, opened-first, opened-second}
 use Rattle.protocol.proofs.Items.Seen.{Holds}
@@ -64,10 +64,10 @@ module _ (F : Form) (c : Count) (r₀ : List ℕ) (good : goodForm F ≡ true) (
   abbrev page : List ℕ
   page = P F (c .0) r₀
 
-  holds-count : Holds (countSteps F) (countOrder F) (countDigits F) page (λ k. c .0)
+  holds-count : Holds (countSteps F) (countOrder F) (countImage F) page (λ k. c .0)
   holds-count k h = go (countAt F k h)
     where
-      go : CountAt F k → getD page (getD (countOrder F) k 0) 0 ≡ getD (countDigits F (c .0)) k 0
+      go : CountAt F k → getD page (getD (countOrder F) k 0) 0 ≡ getD (countDigits F c) k 0
       go (inl a) =
           ap (λ i. getD page i 0) (a .1) ∙ opened-second F (c .0) r₀ k (a .0) ∙ sym (countDigitLow F (c .0) k (a .0))
       go (inr a) =

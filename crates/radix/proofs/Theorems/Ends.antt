@@ -23,11 +23,11 @@ value-largest (more {b = suc b} {bs = bs} h v) =
     omega (arith, value-largest v, suc-mul b (product bs), mul-comm (suc b) (product bs))
 
 -- the ends where the first digit is the last that is kept
-pub highEnd-here : (b e : ℕ) (bs es : List ℕ) → highEnd (b ∷ bs) 0 (e ∷ es) ≡ e * product bs
+pub highEnd-here : (b e : ℕ) (bs es : List ℕ) → highEnd (b ∷ bs) 0 (e ∷ es) .0 ≡ e * product bs
 highEnd-here b e bs es = omega (arith, value-zeros bs (length (e ∷ es) - 1))
 
 pub lowEnd-here : (b d : ℕ) {bs ds : List ℕ} → Valid bs ds
-    → lowEnd (b ∷ bs) 0 (d ∷ ds) + 1 ≡ d * product bs + product bs
+    → lowEnd (b ∷ bs) 0 (d ∷ ds) .0 + 1 ≡ d * product bs + product bs
 lowEnd-here b d {bs} v = omega (arith, value-largest v)
 
 valid-zeros : {bs ds : List ℕ} → Valid bs ds → Valid bs (replicate (length ds) 0)
@@ -54,13 +54,13 @@ valid-largestAfter (suc k) none = none
 valid-largestAfter (suc k) (more h v) = more h (valid-largestAfter k v)
 
 -- so neither end runs over
-pub highEnd-lt : (p : ℕ) {bs b : List ℕ} → Valid bs b → highEnd bs p b < product bs
+pub highEnd-lt : (p : ℕ) {bs b : List ℕ} → Valid bs b → highEnd bs p b .0 < product bs
 highEnd-lt p v = value-lt (valid-zerosAfter (suc p) v)
 
-pub lowEnd-lt : (p : ℕ) {bs a : List ℕ} → Valid bs a → lowEnd bs p a < product bs
+pub lowEnd-lt : (p : ℕ) {bs a : List ℕ} → Valid bs a → lowEnd bs p a .0 < product bs
 lowEnd-lt p v = value-lt (valid-largestAfter (suc p) v)
 
 -- the ends where the first digit agrees and more are kept
 pub highEnd-deeper : (b e p : ℕ) (bs es : List ℕ)
-    → highEnd (b ∷ bs) (suc p) (e ∷ es) ≡ e * product bs + highEnd bs p es
+    → highEnd (b ∷ bs) (suc p) (e ∷ es) .0 ≡ e * product bs + highEnd bs p es .0
 highEnd-deeper b e p bs es = ap (value (b ∷ bs)) (zerosAfter-suc (suc p) e es)

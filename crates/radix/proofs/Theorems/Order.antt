@@ -21,9 +21,9 @@ pub record Parts (bs a b : List ℕ) (p : ℕ) : Type 0 where
   pub within : p < length bs
   pub agree : take p a ≡ take p b
   pub lower : getD a p 0 < getD b p 0
-  pub up-to-low : value bs a ≤ lowEnd bs p a
-  pub low-high : lowEnd bs p a < highEnd bs p b
-  pub from-high : highEnd bs p b ≤ value bs b
+  pub up-to-low : value bs a ≤ lowEnd bs p a .0
+  pub low-high : lowEnd bs p a .0 < highEnd bs p b .0
+  pub from-high : highEnd bs p b .0 ≤ value bs b
 
 -- what each answer of `compare` means
 abbrev pub Means : List ℕ → List ℕ → List ℕ → Comparison → Type 0

@@ -43,9 +43,9 @@ pub record Shown (bs : List ℕ) (lo mid hi : ℕ) (a : List ℕ) : Type 0 where
 
 -- copies that part have both ends in the span
 pub record Inside (bs : List ℕ) (lo hi : ℕ) (a b : List ℕ) (p : ℕ) : Type 0 where
-  pub from-lo : lo ≤ lowEnd bs p a
-  pub low-high : lowEnd bs p a < highEnd bs p b
-  pub to-hi : highEnd bs p b ≤ hi
+  pub from-lo : lo ≤ lowEnd bs p a .0
+  pub low-high : lowEnd bs p a .0 < highEnd bs p b .0
+  pub to-hi : highEnd bs p b .0 ≤ hi
 
 -- what each answer of `compare` says of the span; the copies never cross
 abbrev pub Spans : (bs : List ℕ) (lo mid hi : ℕ) (a b : List ℕ) → Comparison → Type 0
@@ -56,7 +56,7 @@ Spans bs lo mid hi a b Crossed = ⊥
 -- both ends in the span, with the top that lo and hi share in front: so it goes through by induction
 abbrev Ends : (top : ℕ) (bs : List ℕ) (lo hi : ℕ) (a b : List ℕ) → Comparison → Type 0
 Ends top bs lo hi a b Equal = Unit {0}
-Ends top bs lo hi a b (Parted p) = (lo ≤ top + lowEnd bs p a) × (top + highEnd bs p b ≤ hi)
+Ends top bs lo hi a b (Parted p) = (lo ≤ top + lowEnd bs p a .0) × (top + highEnd bs p b .0 ≤ hi)
 Ends top bs lo hi a b Crossed = Unit {0}
 
 -- one digit: p is the product of the bases to its right, b its own base, and c and e are the numbers seen there.

@@ -16,7 +16,7 @@ use prog.Memory.{Memory}
 use prog.Routine.{Routine}
 use prog.Wp.{Heap, Env, Calls, Loops, WpFn, Tables}
 use ghost.Atoms.{Atoms}
-use contract.Monad.{Fun, fact}
+use contract.Monad.{Fun}
 use contract.Lifetimes.{Lfts, Shares}
 use contract.Running.{givenOf, tables, tablesOf}
 use types.Kit.{Given, Item, ‵, ⋆, _$_, _∵_, !, qed, by, move, keep, drop, join, rewrite, suffices, frame, done}
@@ -39,7 +39,7 @@ use denote.Triple.Spec.{Meets, tripleOf}
 use denote.Triple.Statement.{Triple}
 use denote.Triple.Table.{entered, cited}
 use denote.Triple.Walked.{Stays, gave-slice, stay-ref, stay-dropped, AllGo, goes-gave-slice, goes-ref, goes-dropped}
-use denote.Triple.Walked.{says, walkOf, Walks, ends-at, walked, walk-meets}
+use denote.Triple.Walked.{walkOf, Walks, ends-at, walked, walk-meets}
 use denote.Exit.{yes}
 use Rattle.protocol.specs.declared.Command.{Command}
 use Rattle.protocol.proofs.Reader as TD
@@ -53,6 +53,7 @@ use Rattle.page.specs.declared.Stepped.{Stepped}
 use Rattle.page.proofs.Stepped as TS
 use Rattle.page.proofs.Stepped.Laws as TS′
 use Rattle.page.specs.Calls.{steppedLent, stepLent, CarriesStep}
+use Rattle.page.proofs.Walks.Rules.Both.{says-both}
 use Rattle.page.proofs.Walks.Rules.Flat.{_&_}
 use Rattle.page.proofs.Walks.Rules.Locals.{Slot, has, spread, wide, enters, leaves, arg}
 use Rattle.page.proofs.Walks.Rules.Again.{lends-on}
@@ -77,7 +78,7 @@ use Rattle.lagumtay.proofs.Walks.Lent.{last-buffers}
 use Rattle.lagumtay.proofs.Walks.Loads.{loads-shr, loads-mut}
 use Rattle.lagumtay.proofs.Walks.Stores.{Mut, stores-mut}
 use Rattle.lagumtay.proofs.Walks.Apart.{tokens, apart, together, as-long}
-use Rattle.lagumtay.proofs.Walks.Facts.{calls-plain}
+use Rattle.lagumtay.proofs.Walks.Facts.{both, calls-plain}
 use Rattle.lagumtay.proofs.stepping.command_of as c
 use Rattle.lagumtay.proofs.stepping.command_of.Symbol as command-def
 use Rattle.lagumtay.proofs.stepping.command_of.Symbol.{name as #lagumtay·command-of}
@@ -150,7 +151,6 @@ module _ {M : Type 1} (𝓤 : URA M) (H : Heap 𝓤) (A : Atoms 𝓤) (W : Given
   Says s ls =
       steppedLent s (last-page ls) (last-readers ls) (last-buffers ls) ≡ stepLent (form a) (records .now) (memory a) x
 
-  -- our contract does not say this again
   abbrev Carried : Type 0
   Carried = (log : List ℕ) → 10 ≤ length log → CarriesStep (form a) (records .now) (memory a) x log
 
@@ -163,7 +163,7 @@ module _ {M : Type 1} (𝓤 : URA M) (H : Heap 𝓤) (A : Atoms 𝓤) (W : Given
       ‵ (flft (κs .1 .1 .1 .0) (qs .1 .1 .1 .0)) ∷ ‵ (tokens 5 λs ps) ∷ ‵ (lasts g.ended λs b ls) ∷
       ‵ (flft (κs .1 .1 .1 .1 .1 .1 .1 .0) (qs .1 .1 .1 .1 .1 .1 .1 .0)) ∷ ‵ (flft (κs .0) (qs .0)) ∷ []
 
-  exits : (s : Stepped) (ls : Lasting) (e : End) → Says s ls → e ≡ endedOf (order .now) s →
+  exits : (s : Stepped) (ls : Lasting) (e : End) → Says s ls × Carried → e ≡ endedOf (order .now) s →
       Is u8 (e .refusal) (vint w8 (e .refusal) ∷ []) →
       ent 𝓤 (⋆ 𝓤 H A (Ended e ls)) (Post (vint w8 (e .refusal)))
   exits s ls e said told is =
@@ -173,7 +173,8 @@ module _ {M : Type 1} (𝓤 : URA M) (H : Heap 𝓤) (A : Atoms 𝓤) (W : Given
       (vint w8 (e .refusal)) (e .refusal)
       (tt & tt & last-page ls & e .writer & last-readers ls & last-buffers ls & tt & tt & e .told & tt)
       (tt & tt & lp & tt & lr & lb & tt & tt & tt & tt)) $
-      says ! (told-step _ _ _ (order .now) s (last-page ls) (last-readers ls) (last-buffers ls) said e told) $
+      says-both ! (told-step _ _ _ (order .now) s (last-page ls) (last-readers ls) (last-buffers ls) (said .0) e told)
+      (λ known. said .1) $
       -- [the last readers; none; none; the last page; none; the last buffers; none; none; the outcome; token 8; the
       -- writer; token 3; the tokens; token 7; token 0]
       move ! (12 ∷ []) $ apart ! 5 _ $ move ! (18 ∷ 1 ∷ 2 ∷ 16 ∷ 0 ∷ 3 ∷ 4 ∷ 17 ∷ 14 ∷ []) $
@@ -228,8 +229,8 @@ module _ {M : Type 1} (𝓤 : URA M) (H : Heap 𝓤) (A : Atoms 𝓤) (W : Given
         -- [what is handed; token 7; the writer; token 3; token 0; the outcome; token 8; _0; …]
         calls-plain ! fm g.ended (g.clauses 𝓤 H A mem run) (known .1 .0) (λs, ps, tt, b, us v) tt (id⊢ 𝓤 _) (id⊢ 𝓤 _)
         (arg ! 24 refl (arg ! 17 refl (arg ! 9 refl (arg ! 26 refl (arg ! 18 refl (arg ! 28 refl (arg ! 14 refl
-        (arg ! 20 refl (no-more !))))))))) Says
-        (λ s ls. fst∗ 𝓤 (fact 𝓤 (Says s ls)) (fact 𝓤 Carried)) (λ w s ls s-is said.
+        (arg ! 20 refl (no-more !))))))))) (λ s ls. Says s ls × Carried)
+        (λ s ls. both 𝓤 (Says s ls) Carried) (λ w s ls s-is said.
         land ! (from ! (stop !)) (init ! 22 refl
         (LL.lawful TS.the-type TS′.the-laws 𝓤 H A W .typed s (w ∷ []) s-is .0)) $
         -- what the step answered is told

@@ -50,10 +50,10 @@ enum-told-2 c = search needs
 writes : (s : tie.Start) →
     let f = s .args .format in
     let out : List ℕ = take (f .q) (replicate 8 0) in
-    versionInto (f .base) (f .q) (s .args .v .0) out ≡ digitsInto (versionBases (form s)) (s .args .v .0) out
+    versionInto (f .base) (f .q) (s .args .v) out ≡ digitsInto (versionBases (form s)) (s .args .v .0) out
 writes s =
     let f = s .args .format in
-    version-into (f .base) (f .q) (s .args .v .0) (take (f .q) (replicate 8 0)) (few s)
+    version-into (f .base) (f .q) (s .args .v) (take (f .q) (replicate 8 0)) (few s)
 
 returns : tie.Need-returns
 returns c =

@@ -46,7 +46,7 @@ step : (s : tie.Start) →
     (versionDigits (form s) (s .args .w .steps) < s .args .format .q + s .args .format .q)
     × (getD (digits (versionBases (form s)) (s .args .w .version .0))
     (thereAndBack (s .args .format .q) (versionDigits (form s) (s .args .w .steps))) 0
-    ≡ getD (recordDigits (form s) (s .args .w .version .0) (recordAt (form s) (s .args .records .now) (s .args .w .index)))
+    ≡ getD (recordDigits (form s) (s .args .w .version) (recordAt (form s) (s .args .records .now) (s .args .w .index)))
     (s .args .w .steps) 0)
 step s =
     let S = s .args .records .now in

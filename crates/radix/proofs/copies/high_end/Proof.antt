@@ -1,7 +1,7 @@
 -- The value of the kept digits, moved up by the bases after them: the zeros add nothing.
 use borrow.Author.Needs.{needs}
-use mathlib.Core.Path.{sym}
-use Prim.Native.Nat.{suc, _+_}
+use mathlib.Core.Path.{sym, ap}
+use Prim.Native.Nat.{ℕ, suc, _+_}
 use native.Mathlib.Omega.{arith}
 use native.Mathlib.Numerals.{add-one}
 use lib.Seq.{length-take-le}
@@ -48,8 +48,8 @@ weight-requires c κs =
     let s = c .before .before .before .before .before .before in
     lent-few (s .args .p + 1) (s .args .bases .now) (s .pre .0) (omega arith) (omega arith)
 
-mul-result : tie.Need-mul-result
-mul-result c =
+mul-high : tie.Need-mul-high
+mul-high c =
     let h = c .before .before in
     let s = c .before .before .before .before .before .before .before in
     let b = s .args .bases .now in
@@ -64,7 +64,7 @@ returns c =
     let b = s .args .bases .now in
     let p = s .args .p in
     rw (h .horner .ensures, c .weight .ensures, lent-rest (p + 1) b, add-one p)
-    (zeros-after (suc p) b (s .args .b .now) (s .pre .1))
+    (ap (λ (x : ℕ). record { 0 = x }) (zeros-after (suc p) b (s .args .b .now) (s .pre .1)))
 
 pub high-end-spec : {M : Type 1} → statement M
 high-end-spec =
@@ -79,5 +79,5 @@ high-end-spec =
     part-weight-start
     part-weight-end
     weight-requires
-    mul-result
+    mul-high
     returns)

@@ -1,7 +1,7 @@
 -- The value of the kept digits, moved up, and the largest digits, whose value is the product less 1.
 use borrow.Author.Needs.{needs}
-use mathlib.Core.Path.{sym}
-use Prim.Native.Nat.{suc, _+_}
+use mathlib.Core.Path.{sym, ap}
+use Prim.Native.Nat.{ℕ, suc, _+_}
 use native.Mathlib.Omega.{arith}
 use native.Mathlib.Numerals.{add-one}
 use lib.Seq.{length-take-le}
@@ -49,8 +49,8 @@ horner-requires c κs =
     let k = s .args .p + 1 in
     (good-take k b (s .pre .0), kept-valid k b (s .args .a .now) (s .pre .1))
 
-mul-result : tie.Need-mul-result
-mul-result c =
+mul-low : tie.Need-mul-low
+mul-low c =
     let w = c .before .before .before in
     let s = c .before .before .before .before .before .before .before in
     let b = s .args .bases .now in
@@ -58,16 +58,16 @@ mul-result c =
     let f = ends-fit k b (s .args .a .now) (s .pre .1) (s .pre .0) in
     record { fits = rw (c .horner .ensures, w .weight .ensures, lent-rest k b) (omega arith) }
 
-sub-result : tie.Need-sub-result
-sub-result c =
+sub-low : tie.Need-sub-low
+sub-low c =
     let w = c .before .before .before in
     let s = c .before .before .before .before .before .before .before in
     let b = s .args .bases .now in
     let k = s .args .p + 1 in
     rw (w .weight .ensures, lent-rest k b) (rest-pos k b (s .pre .0))
 
-add-result : tie.Need-add-result
-add-result c =
+add-low : tie.Need-add-low
+add-low c =
     let w = c .before .before .before in
     let s = c .before .before .before .before .before .before .before in
     let b = s .args .bases .now in
@@ -85,7 +85,7 @@ returns c =
     let b = s .args .bases .now in
     let p = s .args .p in
     rw (c .horner .ensures, w .weight .ensures, lent-rest (p + 1) b, add-one p)
-    (largest-after (suc p) b (s .args .a .now) (s .pre .1))
+    (ap (λ (x : ℕ). record { 0 = x }) (largest-after (suc p) b (s .args .a .now) (s .pre .1)))
 
 pub low-end-spec : {M : Type 1} → statement M
 low-end-spec =
@@ -100,7 +100,7 @@ low-end-spec =
     slice-aggregate-horner
     slice-aggregate-horner-2
     horner-requires
-    mul-result
-    sub-result
-    add-result
+    mul-low
+    sub-low
+    add-low
     returns)

@@ -157,7 +157,7 @@ returns c =
     let p = c .before .before in
     let q = p .before .before .before .before in
     let a = start₅ q .args in
-    line-end (bytes q) (acceptedLine (a .n) (a .buffers .now) (a .who) (a .used) (a .v .0)) (p .put-letter2 .ensures) (omega arith)
+    line-end (bytes q) (acceptedLine (a .n) (a .buffers .now) (a .who) (a .used) (a .v)) (p .put-letter2 .ensures) (omega arith)
     (simp append-assoc)
 
 pub put-accepted-spec : {M : Type 1} → statement M

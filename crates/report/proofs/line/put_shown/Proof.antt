@@ -68,7 +68,7 @@ returns c =
     let p = c .before .before in
     let q = p .before .before .before .before in
     let a = start₃ q .args in
-    line-end (count q) (shownLine (a .who) (a .shown .0)) (p .put-letter2 .ensures) (omega arith) (simp append-assoc)
+    line-end (count q) (shownLine (a .who) (a .shown)) (p .put-letter2 .ensures) (omega arith) (simp append-assoc)
 
 pub put-shown-spec : {M : Type 1} → statement M
 put-shown-spec =
