@@ -5,6 +5,8 @@ use mathlib.Core.Bool.{true, cond}
 use Prim.Native.Nat.{ℕ, _+_, _≤_}
 use lib.Dec.{eqb}
 use lib.ListN.{length, getD}
+use Rattle.radix.specs.declared.Count.{Count}
+use Rattle.radix.specs.declared.Version.{Version}
 use Rattle.protocol.specs.Form.{Form, goodForm}
 use Rattle.protocol.specs.Layout.{countOrder, countDigits, recordOrder, recordDigits}
 use Rattle.protocol.specs.Allowed.{allowedPage, allowedWriting}
@@ -57,11 +59,11 @@ NoReader F x = F .readers ≤ whoseOf x (F .readers)
 abbrev pub put : (position digit : ℕ) → Put
 put p d = record { position = p; digit = d }
 
-abbrev pub countPut : Form → ℕ → ℕ → Put
-countPut F c k = put (getD (countOrder F) k 0) (getD (countDigits F (record { 0 = c })) k 0)
+abbrev pub countPut : Form → Count → (k : ℕ) → Put
+countPut F c k = put (getD (countOrder F) k 0) (getD (countDigits F c) k 0)
 
-abbrev pub recordPut : Form → List ℕ → (v index k : ℕ) → Put
-recordPut F S v i k = put (getD (recordOrder F) k 0) (getD (recordDigits F (record { 0 = v }) (recordAt F S i)) k 0)
+abbrev pub recordPut : Form → (records : List ℕ) → Version → (index k : ℕ) → Put
+recordPut F S v i k = put (getD (recordOrder F) k 0) (getD (recordDigits F v (recordAt F S i)) k 0)
 
 -- the lent writer after one more of so many steps
 unfoldable pub advanced : ℕ → Writer → Writer

@@ -33,7 +33,7 @@ fn count_put(format: Format, bases: &[u16], ink: u64, w: Writer) -> Put
         × (w .kind ≡ 1)
         × (bytes 8 ink ≡ inkOf (formOf (now bases) format) w)
         × (w .steps < countSteps (formOf (now bases) format)) ⌝ }
-    ensures { λ r. ⌜ r ≡ countPut (formOf (now (bases .entry)) format) (w .count .0) (w .steps) ⌝ }
+    ensures { λ r. ⌜ r ≡ countPut (formOf (now (bases .entry)) format) (w .count) (w .steps) ⌝ }
 {
     let k = w.steps;
     let j = layout::there_and_back(bases.len(), k);
@@ -51,7 +51,7 @@ fn version_put(format: Format, bases: &[u16], records: &[u8], ink: u64, w: Write
         × (inRecords (formOf (now bases) format) (now records) (w .index) ≡ true)
         × (inContent (formOf (now bases) format) (w .steps) ≡ false)
         × (w .steps < recordSteps (formOf (now bases) format)) ⌝ }
-    ensures { λ r. ⌜ r ≡ recordPut (formOf (now (bases .entry)) format) (now (records .entry)) (w .version .0)
+    ensures { λ r. ⌜ r ≡ recordPut (formOf (now (bases .entry)) format) (now (records .entry)) (w .version)
         (w .index) (w .steps) ⌝ }
 {
     let k = w.steps;
@@ -67,7 +67,7 @@ fn content_put(format: Format, bases: &[u16], records: &[u8], w: Writer) -> Put
     requires { ⌜ (goodForm (formOf (now bases) format) ≡ true)
         × (inRecords (formOf (now bases) format) (now records) (w .index) ≡ true)
         × (inContent (formOf (now bases) format) (w .steps) ≡ true) ⌝ }
-    ensures { λ r. ⌜ r ≡ recordPut (formOf (now (bases .entry)) format) (now (records .entry)) (w .version .0)
+    ensures { λ r. ⌜ r ≡ recordPut (formOf (now (bases .entry)) format) (now (records .entry)) (w .version)
         (w .index) (w .steps) ⌝ }
 {
     let k = w.steps;

@@ -13,7 +13,7 @@ use Rattle.page.proofs.Writes.Writers.{count-steps, record-steps}
 
 -- what is put goes onto the page
 module _ (F : Form) (S page : List ℕ) (w : Writer) (ready : WriteReady F S page w) {p : Put} where
-  pub count-onto : w .kind ≡ 1 → p ≡ countPut F (w .count .0) (w .steps) → p .position < length page
+  pub count-onto : w .kind ≡ 1 → p ≡ countPut F (w .count) (w .steps) → p .position < length page
   count-onto is e =
       omega (
         arith,
@@ -23,7 +23,7 @@ module _ (F : Form) (S page : List ℕ) (w : Writer) (ready : WriteReady F S pag
       )
 
   pub record-onto :
-      w .kind ≡ 2 → p ≡ recordPut F S (w .version .0) (w .index) (w .steps) → p .position < length page
+      w .kind ≡ 2 → p ≡ recordPut F S (w .version) (w .index) (w .steps) → p .position < length page
   record-onto is e =
       omega (
         arith,

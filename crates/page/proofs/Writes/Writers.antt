@@ -113,7 +113,7 @@ module _
     {r : Writer}
   where
     pub stepped-count :
-        w .kind ≡ 1 → p ≡ countPut F (w .count .0) (w .steps) → r ≡ advanced (countSteps F) w →
+        w .kind ≡ 1 → p ≡ countPut F (w .count) (w .steps) → r ≡ advanced (countSteps F) w →
         wrote (Done Nothing) (set page (p .position) (p .digit)) r ≡ writes F S page w WriterStep
     unfolding carry stepWriter onMeant
     stepped-count is f g =
@@ -124,7 +124,7 @@ module _
         rw (e, f, g, a)
 
     pub stepped-record :
-        w .kind ≡ 2 → p ≡ recordPut F S (w .version .0) (w .index) (w .steps) → r ≡ advanced (recordSteps F) w →
+        w .kind ≡ 2 → p ≡ recordPut F S (w .version) (w .index) (w .steps) → r ≡ advanced (recordSteps F) w →
         wrote (Done Nothing) (set page (p .position) (p .digit)) r ≡ writes F S page w WriterStep
     unfolding carry stepWriter onMeant
     stepped-record is f g =
