@@ -200,14 +200,14 @@ uint8_t lagumtay_cancel(const lagumtay_format *format, const uint16_t *bases, si
 
 /* Put readers' states into bytes, 27 for each: kind, allowed, finished, steps (8 bytes, high byte first), 16 digits. It
  * checks only that there are so many bytes; if not, it answers refusal 2 and writes nothing. Any states can be packed.
- * crates/codec/specs/Packed.antt, `packed`; crates/page/specs/Calls.antt, `packAll`; this call:
+ * crates/codec/specs/Packed.antt, `packed`; crates/packed/specs/States.antt, `packAll`; this call:
  * crates/lagumtay/specs/Calls.antt, `packCall`. */
 uint8_t lagumtay_pack(const lagumtay_reader *readers, size_t readers_len, uint8_t *bytes, size_t bytes_len);
 
 /* Take readers' states out of bytes, the other way round: what was packed is there again, field by field. It checks the
  * length as lagumtay_pack does. Any bytes can be unpacked; a state that no steps could hold is refused by the next run,
  * step or cancel, by 3.
- * crates/codec/specs/Packed.antt, `unpacked`; crates/page/specs/Calls.antt, `unpackAll`; this call:
+ * crates/codec/specs/Packed.antt, `unpacked`; crates/packed/specs/States.antt, `unpackAll`; this call:
  * crates/lagumtay/specs/Calls.antt, `unpackCall`. */
 uint8_t lagumtay_unpack(lagumtay_reader *readers, size_t readers_len, const uint8_t *bytes, size_t bytes_len);
 

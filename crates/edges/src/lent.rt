@@ -126,7 +126,7 @@ fn open(before: Lent, count: Count) -> Lent {
     let m = bases_within(l.places, &bases);
     let record = [97u8; 300];
     let size = within(f.n, &record);
-    let o = page::open_packed(
+    let o = packed::open(
         &mut states[..kept],
         f,
         &bases[..m],
@@ -168,7 +168,7 @@ pub(crate) fn run(before: Lent, commands: &[u8]) -> Lent {
     let lent = within(l.records, &records);
     let mut log = [7u8; 24];
     let room = within(l.room, &log);
-    let r = page::run_packed(
+    let r = packed::run(
         &mut states[..kept],
         f,
         &bases[..m],

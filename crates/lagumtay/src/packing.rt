@@ -8,7 +8,7 @@ use protocol::Reader;
 pub extern "C" fn lagumtay_pack(readers: &[Reader], bytes: &mut [u8]) -> u8
     ensures { λ r. ⌜ packedLeft r (now (bytes .exit)) ≡ packCall (now (readers .entry)) (now (bytes .entry)) ⌝ }
 {
-    let e = page::pack(readers, bytes);
+    let e = packed::pack(readers, bytes);
     protocol::ending_number(e)
 }
 
@@ -18,6 +18,6 @@ pub extern "C" fn lagumtay_pack(readers: &[Reader], bytes: &mut [u8]) -> u8
 pub extern "C" fn lagumtay_unpack(readers: &mut [Reader], bytes: &[u8]) -> u8
     ensures { λ r. ⌜ unpackedLeft r (now (readers .exit)) ≡ unpackCall (now (readers .entry)) (now (bytes .entry)) ⌝ }
 {
-    let e = page::unpack(readers, bytes);
+    let e = packed::unpack(readers, bytes);
     protocol::ending_number(e)
 }

@@ -5,8 +5,6 @@ pub mod Opened
 pub mod Cleared
 pub mod Starts
 pub mod Begun
-pub mod Packs
-pub mod RoundTrip
 pub mod Carries
 pub mod Cancels
 pub mod Outcomes

@@ -2,5 +2,4 @@ pub mod Walks
 pub mod Readers
 pub mod Writes
 pub mod Calls
-pub mod Kept
 pub mod Loop

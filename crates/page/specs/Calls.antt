@@ -24,7 +24,6 @@ use Rattle.protocol.specs.declared.Reader.{Reader}
 use Rattle.protocol.specs.declared.Writer.{Writer}
 use Rattle.codec.specs.Encode.{encode}
 use Rattle.codec.specs.Entry.{outcomeIn}
-use Rattle.codec.specs.Packed.{packed, unpacked}
 use Rattle.page.specs.declared.Answer.{Answer}
 use Rattle.page.specs.declared.Answer.the-variants.{Done, Refused}
 use Rattle.page.specs.declared.Opened.{Opened}
@@ -132,36 +131,6 @@ foundIn e n i = cond (refusing e) e (cond (leb n i) (Ending.Refused NoSuch) Fini
 
 abbrev pub readsIn : Reader → Ending
 readsIn x = cond (eqb (x .stage .kind) 0) (Ending.Refused NothingPending) Finished
-
--- READERS' STATES AS BYTES, and back
-pub record PackedLent : Type 0 where
-  pub ending : Ending
-  pub bytes : List ℕ
-
-abbrev pub packedLent : Ending → List ℕ → PackedLent
-packedLent e l = record { ending = e; bytes = l }
-
-unfoldable pub packAll : List Reader → List ℕ → PackedLent
-packAll rs out =
-    cond (eqb (length out) (length rs * 27)) (packedLent Finished (concat (map packed rs)))
-    (packedLent (Ending.Refused WrongLength) out)
-
-pub record UnpackedLent : Type 0 where
-  pub ending : Ending
-  pub readers : List Reader
-
-abbrev pub unpackedLent : Ending → List Reader → UnpackedLent
-unpackedLent e rs = record { ending = e; readers = rs }
-
--- the states that so many bytes say
-unfoldable pub unpackFrom : ℕ → List ℕ → List Reader
-unpackFrom zero l = []
-unpackFrom (suc k) l = unpacked (take 27 l) ∷ unpackFrom k (drop 27 l)
-
-unfoldable pub unpackAll : List Reader → List ℕ → UnpackedLent
-unpackAll rs l =
-    cond (eqb (length l) (length rs * 27)) (unpackedLent Finished (unpackFrom (length rs) l))
-    (unpackedLent (Ending.Refused WrongLength) rs)
 
 -- DEMAND 3 FOR THE CALLER: whatever list of runs from an accepted opening left what is lent now, the claim holds of
 -- that list with this run added, if each run's records go on with those before

@@ -8,4 +8,3 @@ pub mod Start
 pub mod Carry
 pub mod Loop
 pub mod Calls
-pub mod Kept

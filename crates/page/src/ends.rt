@@ -15,7 +15,7 @@ pub(crate) struct Taken {
 }
 
 // The bytes become zeros.
-pub(crate) fn zero(bytes: &mut [u8])
+pub fn zero(bytes: &mut [u8])
     ensures { λ r. ⌜ now (bytes .exit) ≡ replicate (length (now (bytes .entry))) 0 ⌝ }
 {
     let mut k: usize = 0;

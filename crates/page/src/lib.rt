@@ -7,8 +7,6 @@ mod count_read;
 mod ends;
 mod looping;
 mod opening;
-mod packed;
-mod packing;
 mod pen;
 mod reading;
 mod record_read;
@@ -21,12 +19,9 @@ mod write_step;
 mod writing;
 
 pub use cancelling::cancel;
+pub use ends::zero;
 pub use opening::open;
-pub use packed::open_packed;
-pub use packed::run_packed;
-pub use packed::step_packed;
-pub use packing::pack;
-pub use packing::unpack;
+pub use opening::open_page;
 pub use pen::resting;
 use protocol::Ending;
 use protocol::Outcome;
@@ -34,6 +29,7 @@ use protocol::Refusal;
 use protocol::Writer;
 pub use running::run;
 pub use stepping::step;
+pub use stepping::told;
 
 // What an opening answers, and the writer as it leaves it.
 pub struct Opened {

@@ -74,7 +74,7 @@ fn refused(e: Ending, w: Writer) -> Opened
 }
 
 // The opening over so many readers, but for their states.
-pub(crate) fn open_page(
+pub fn open_page(
     readers: usize,
     format: Format,
     bases: &[u16],
@@ -109,7 +109,7 @@ pub(crate) fn open_page(
     }
 }
 
-pub(crate) fn refuses(o: Opened) -> bool
+fn refuses(o: Opened) -> bool
     ensures { λ r. ⌜ r ≡ refusing (o .ending) ⌝ }
 {
     let e = o.ending;

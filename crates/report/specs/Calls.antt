@@ -3,7 +3,7 @@ use mathlib.Core.List.{List}
 use Prim.Native.Nat.{ℕ}
 use lib.ListN.{length}
 use Rattle.codec.specs.Entry.{overlay}
-use Rattle.page.specs.Kept.{Kept}
+use Rattle.packed.specs.Kept.{Kept}
 use Rattle.report.specs.Turn.{Start, Turn}
 use Rattle.report.specs.declared.Started.{Started}
 use Rattle.report.specs.declared.Told.{Told}

@@ -11,7 +11,7 @@ use Rattle.protocol.specs.declared.Ending.{Ending}
 use Rattle.codec.specs.Decode.{decodeAt}
 use Rattle.codec.specs.declared.Decoded.{Decoded}
 use Rattle.page.specs.declared.Answer.{Answer}
-use Rattle.page.specs.Kept.{Kept, openKept, runKept, stepKept}
+use Rattle.packed.specs.Kept.{Kept, openKept, runKept, stepKept}
 use Rattle.report.specs.Header.{Parsed, refused, header, Header}
 use Rattle.report.specs.Text.{outcomeLine, endLine}
 use Rattle.report.specs.declared.Progress.{Progress}

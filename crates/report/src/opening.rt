@@ -1,7 +1,7 @@
 // Where a printed run begins.
 ghost use mathlib.Core.Path.{_≡_};
 ghost use Prim.Native.Nat.{_≤_};
-ghost use Rattle.page.specs.Kept.{kept};
+ghost use Rattle.packed.specs.Kept.{kept};
 ghost use Rattle.report.specs.Header.{parse as parseOf};
 ghost use Rattle.report.specs.Turn.{spaceOf, startOf};
 ghost use Rattle.report.specs.Calls.{started};
@@ -59,7 +59,7 @@ pub fn start(
     let all = header::bases(input, m);
     let from = h.first;
     let to = from + f.n;
-    let o = page::open_packed(
+    let o = packed::open(
         states,
         f,
         &all[..m],

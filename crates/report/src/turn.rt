@@ -4,7 +4,7 @@ ghost use mathlib.Core.Bool.{true, false};
 ghost use Prim.Native.Nat.{_+_, _≤_, _<_};
 ghost use lib.ListN.{length};
 ghost use Rattle.codec.specs.Entry.{overlay};
-ghost use Rattle.page.specs.Kept.{kept};
+ghost use Rattle.packed.specs.Kept.{kept};
 ghost use Rattle.report.specs.Header.{header, headerIn, parse as parseOf};
 ghost use Rattle.report.specs.Found.{foundIn};
 ghost use Rattle.report.specs.Text.{endLine};
@@ -67,7 +67,7 @@ fn carry_out(
     let d = codec::decode(input, at);
     let Decoded::Is(x, after) = d else {
         let mut log = [0u8; 1];
-        let r = page::run_packed(
+        let r = packed::run(
             states,
             f,
             &all[..m],
@@ -82,7 +82,7 @@ fn carry_out(
         let w = r.writer;
         return ends(p, w, e, line);
     };
-    let s = page::step_packed(
+    let s = packed::step(
         states,
         f,
         &all[..m],

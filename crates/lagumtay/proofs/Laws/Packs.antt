@@ -5,7 +5,7 @@ use mathlib.Core.List.{List}
 use Rattle.protocol.specs.Outcome.{endingNumber}
 use Rattle.protocol.specs.declared.Ending.{Ending}
 use Rattle.protocol.specs.declared.Reader.{Reader}
-use Rattle.page.specs.Calls.{PackedLent, packedLent, packAll, UnpackedLent, unpackedLent, unpackAll}
+use Rattle.packed.specs.States.{PackedLent, packedLent, packAll, UnpackedLent, unpackedLent, unpackAll}
 use Rattle.lagumtay.specs.Calls.{packedLeft, packCall, unpackedLeft, unpackCall}
 
 module _ (rs : List Reader) (l : List ℕ) (e : Ending) where

@@ -20,8 +20,6 @@ pub mod Asks
 pub mod Said
 pub mod Shared
 pub mod Tokens
-pub mod Copies
-pub mod Prefix
 pub mod Local
 pub mod Commands
 pub mod Arms

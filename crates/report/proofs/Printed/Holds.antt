@@ -18,11 +18,11 @@ use Rattle.protocol.proofs.Allowed.Kept.{Fine}
 use Rattle.protocol.proofs.Allowed.Means.{GoodReading}
 use Rattle.protocol.proofs.Memory.Digits.{length-storedDigits}
 use Rattle.page.specs.Calls.{openLent}
-use Rattle.page.specs.Kept.{Kept, statesOf, unpackedOf, packedOver, openKept}
-use Rattle.page.proofs.Calls.Packs.{unpacked-length}
-use Rattle.page.proofs.Calls.RoundTrip.{Lendable}
-use Rattle.page.proofs.Kept.States.{by-states, states-are}
-use Rattle.page.proofs.Kept.Back.{comes-back}
+use Rattle.packed.specs.Kept.{Kept, statesOf, unpackedOf, packedOver, openKept}
+use Rattle.packed.proofs.Laws.Packs.{unpacked-length}
+use Rattle.packed.proofs.Laws.RoundTrip.{Lendable}
+use Rattle.packed.proofs.Kept.States.{by-states, states-are}
+use Rattle.packed.proofs.Kept.Back.{comes-back}
 
 abbrev pub Holds : Form → Kept → State → Type 0
 Holds F K σ = unpackedOf K ≡ stored F σ

@@ -29,7 +29,7 @@ use Rattle.protocol.proofs.Runs.OnMemory.{run-started}
 use Rattle.page.specs.declared.Answer.the-variants.{Done, Refused}
 use Rattle.page.specs.Carry.{After, onAnswer}
 use Rattle.page.specs.Calls.{startLent, anyRoom, onStart, stepLent, runLent}
-use Rattle.page.specs.Kept.{Kept, unpackedOf, packedOver, runKept, stepKept}
+use Rattle.packed.specs.Kept.{Kept, unpackedOf, packedOver, runKept, stepKept}
 use Rattle.page.proofs.Calls.Steps.{entry-most}
 use Rattle.report.proofs.Printed.Holds.{Holds}
 

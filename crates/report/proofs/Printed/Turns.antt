@@ -26,7 +26,7 @@ use Rattle.protocol.proofs.Runs.Fuel.{full}
 use Rattle.codec.specs.Decode.{decodeAt}
 use Rattle.codec.specs.declared.Decoded.{Decoded}
 use Rattle.page.specs.declared.Answer.{Answer}
-use Rattle.page.specs.Kept.{Kept, packedOver, runKept, SteppedKept, stepKept}
+use Rattle.packed.specs.Kept.{Kept, packedOver, runKept, SteppedKept, stepKept}
 use Rattle.page.proofs.Calls.Steps.{entry-most}
 use Rattle.report.specs.declared.Progress.{Progress}
 use Rattle.report.specs.Header.{Header, header}

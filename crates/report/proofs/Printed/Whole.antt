@@ -21,7 +21,7 @@ use Rattle.protocol.proofs.Allowed.Opened.{fine-opened}
 use Rattle.protocol.proofs.Memory.Stored.{load-stored, stored-valid, stored-lengths}
 use Rattle.protocol.proofs.Runs.Fuel.{full}
 use Rattle.protocol.proofs.Runs.OnMemory.{run-started}
-use Rattle.page.specs.Kept.{Kept, openKept}
+use Rattle.packed.specs.Kept.{Kept, openKept}
 use Rattle.report.specs.Header.{Parsed, refused, header, formIn, headerIn, parse}
 use Rattle.report.specs.Text.{endLine}
 use Rattle.report.specs.Turn.{spaceOf, startOf, turnOf, turns}

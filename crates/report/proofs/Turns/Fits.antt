@@ -26,7 +26,7 @@ use Rattle.protocol.proofs.Memory.Stored.{valid-parts, load-sized}
 use Rattle.page.specs.declared.Answer.the-variants.{Done, Refused}
 use Rattle.page.specs.Carry.{Ready, After, onAnswer}
 use Rattle.page.specs.Calls.{startLent, anyRoom, onStart}
-use Rattle.page.specs.Kept.{Kept, unpackedOf, stepKept}
+use Rattle.packed.specs.Kept.{Kept, unpackedOf, stepKept}
 use Rattle.page.proofs.Calls.Begun.{begins}
 use Rattle.page.proofs.Calls.Steps.{entry-most}
 use Rattle.report.specs.Text.{OutcomeFits}

@@ -13,7 +13,7 @@ use Rattle.codec.specs.Decode.{decodeAt}
 use Rattle.codec.specs.declared.Decoded.{Decoded}
 use Rattle.codec.proofs.Next.{Says, decoded}
 use Rattle.page.specs.declared.Answer.{Answer}
-use Rattle.page.specs.Kept.{Kept, runKept, stepKept}
+use Rattle.packed.specs.Kept.{Kept, runKept, stepKept}
 use Rattle.report.specs.declared.Progress.{Progress}
 use Rattle.report.specs.declared.Told.{Told}
 use Rattle.report.specs.Header.{Parsed, refused, header, Header}

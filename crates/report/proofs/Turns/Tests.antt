@@ -11,7 +11,7 @@ use Rattle.protocol.specs.declared.Refusal.the-variants.{InvalidState}
 use Rattle.protocol.specs.declared.Ending.{Ending}
 use Rattle.protocol.specs.declared.Ending.the-variants.{Finished, Refused}
 use Rattle.codec.specs.Entry.{overlay}
-use Rattle.page.specs.Kept.{Kept, kept}
+use Rattle.packed.specs.Kept.{Kept, kept}
 use Rattle.report.specs.declared.Progress.{Progress}
 use Rattle.report.specs.declared.Told.{Told}
 use Rattle.report.specs.Header.{refused, header, Header}

@@ -5,7 +5,7 @@ use native.Mathlib.Omega.{arith}
 use Prim.Native.Nat.{_≤_}
 use lib.ListN.{length}
 use lib.Seq.{length-take-le}
-use Rattle.page.specs.Kept.{Kept, kept}
+use Rattle.packed.specs.Kept.{Kept, kept}
 use Rattle.report.proofs.Laws.Taken.{Taken, taken, refused-is}
 use Rattle.report.proofs.Turns.Calls.{form-is, first-is, start-refused, start-opened}
 use Rattle.report.proofs.opening.start.Statement.{statement}
@@ -63,23 +63,23 @@ few c =
 array-share-prefix-all : tie.Need-array-share-prefix-all
 array-share-prefix-all c = few (c .before)
 
-slice-aggregate-open-packed : tie.Need-slice-aggregate-open-packed
-slice-aggregate-open-packed c = sym (length-take-le _ _ (few (c .before .before)))
+slice-aggregate-open : tie.Need-slice-aggregate-open
+slice-aggregate-open c = sym (length-take-le _ _ (few (c .before .before)))
 
-sub-open-packed : tie.Need-sub-open-packed
-sub-open-packed c = search needs
+sub-open : tie.Need-sub-open
+sub-open c = search needs
 
-part-open-packed-start : tie.Need-part-open-packed-start
-part-open-packed-start c = search needs
+part-open-start : tie.Need-part-open-start
+part-open-start c = search needs
 
-part-open-packed-end : tie.Need-part-open-packed-end
-part-open-packed-end c =
+part-open-end : tie.Need-part-open-end
+part-open-end c =
     let t = taken-here (known (c .before .before .before .before)) in
     let f = t .is-found in
     omega (arith, ap (λ h. h .first) f, ap (λ h. h .format .n) f, t .allowed .first-ends)
 
-open-packed-requires : tie.Need-open-packed-requires
-open-packed-requires c κs = search needs
+open-requires : tie.Need-open-requires
+open-requires c κs = search needs
 
 same-length : tie.Need-same-length
 same-length c = search needs
@@ -100,7 +100,7 @@ returns-2 c =
     let s = start-of (p .before .before) in
     let i = s .args .input .now in
     start-opened i (kept-of s) _ f (t .is-header) (t .is-found) (form-is i f (t .is-found) (k .before .bases .ensures .1))
-    (first-is i f (t .is-found)) (o .open-packed .ensures)
+    (first-is i f (t .is-found)) (o .open .ensures)
 
 pub start-spec : {M : Type 1} → statement M
 start-spec =
@@ -113,11 +113,11 @@ start-spec =
     bases-requires
     add-to
     array-share-prefix-all
-    slice-aggregate-open-packed
-    sub-open-packed
-    part-open-packed-start
-    part-open-packed-end
-    open-packed-requires
+    slice-aggregate-open
+    sub-open
+    part-open-start
+    part-open-end
+    open-requires
     same-length
     same-length-2
     same-length-3

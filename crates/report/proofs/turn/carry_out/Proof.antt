@@ -6,7 +6,7 @@ use Prim.Native.Nat.{_≤_}
 use native.Mathlib.Omega.{arith}
 use lib.ListN.{length}
 use lib.Seq.{length-take-le}
-use Rattle.page.specs.Kept.{Kept, kept}
+use Rattle.packed.specs.Kept.{Kept, kept}
 use Rattle.report.specs.Header.{headerIn}
 use Rattle.report.specs.Calls.{toldFrom}
 use Rattle.report.proofs.Laws.Headers.{Accepted, accepted}
@@ -58,32 +58,32 @@ enum-known-d c = search needs
 array-share-prefix-all : tie.Need-array-share-prefix-all
 array-share-prefix-all c = few (c .before .before .before)
 
-slice-aggregate-run-packed : tie.Need-slice-aggregate-run-packed
-slice-aggregate-run-packed c = sym (length-take-le _ _ (few (c .before .before .before .before)))
+slice-aggregate-run : tie.Need-slice-aggregate-run
+slice-aggregate-run c = sym (length-take-le _ _ (few (c .before .before .before .before)))
 
-sub-run-packed : tie.Need-sub-run-packed
-sub-run-packed c = records-in (start-of (c .before .before .before .before .before .before)) .0
+sub-run : tie.Need-sub-run
+sub-run c = records-in (start-of (c .before .before .before .before .before .before)) .0
 
-part-run-packed-start : tie.Need-part-run-packed-start
-part-run-packed-start c = records-in (start-of (c .before .before .before .before .before .before)) .0
+part-run-start : tie.Need-part-run-start
+part-run-start c = records-in (start-of (c .before .before .before .before .before .before)) .0
 
-part-run-packed-end : tie.Need-part-run-packed-end
-part-run-packed-end c = records-in (start-of (c .before .before .before .before .before .before)) .1
+part-run-end : tie.Need-part-run-end
+part-run-end c = records-in (start-of (c .before .before .before .before .before .before)) .1
 
-sub-run-packed-2 : tie.Need-sub-run-packed-2
-sub-run-packed-2 c = search needs
+sub-run-2 : tie.Need-sub-run-2
+sub-run-2 c = search needs
 
-part-run-packed-start-2 : tie.Need-part-run-packed-start-2
-part-run-packed-start-2 c = search needs
+part-run-start-2 : tie.Need-part-run-start-2
+part-run-start-2 c = search needs
 
-part-run-packed-end-2 : tie.Need-part-run-packed-end-2
-part-run-packed-end-2 c = search needs
+part-run-end-2 : tie.Need-part-run-end-2
+part-run-end-2 c = search needs
 
-slice-aggregate-run-packed-2 : tie.Need-slice-aggregate-run-packed-2
-slice-aggregate-run-packed-2 c = search needs
+slice-aggregate-run-2 : tie.Need-slice-aggregate-run-2
+slice-aggregate-run-2 c = search needs
 
-run-packed-requires : tie.Need-run-packed-requires
-run-packed-requires c κs = search needs
+run-requires : tie.Need-run-requires
+run-requires c κs = search needs
 
 ends-requires : tie.Need-ends-requires
 ends-requires c κs = search needs
@@ -108,30 +108,30 @@ returns c =
     tells-last (a .line .now) (a .p) _ _ (c .ends .ensures)
     ∙ ap (toldFrom (a .line .now))
     (ends-none (a .input .now) (a .p) (kept-of s) (a .h) (s .pre .0) (b .bases .ensures .1)
-    (r .run-packed .ensures) (d .decode .ensures) (k .match .keys2))
+    (r .run .ensures) (d .decode .ensures) (k .match .keys2))
 
 -- A COMMAND
 
 array-share-prefix-all-2 : tie.Need-array-share-prefix-all-2
 array-share-prefix-all-2 c = few (c .before .before .before .before .before)
 
-slice-aggregate-step-packed : tie.Need-slice-aggregate-step-packed
-slice-aggregate-step-packed c = sym (length-take-le _ _ (few (c .before .before .before .before .before .before)))
+slice-aggregate-step : tie.Need-slice-aggregate-step
+slice-aggregate-step c = sym (length-take-le _ _ (few (c .before .before .before .before .before .before)))
 
-sub-step-packed : tie.Need-sub-step-packed
-sub-step-packed c =
+sub-step : tie.Need-sub-step
+sub-step c =
     records-in (start-of (c .before .before .before .before .before .before .before .before)) .0
 
-part-step-packed-start : tie.Need-part-step-packed-start
-part-step-packed-start c =
+part-step-start : tie.Need-part-step-start
+part-step-start c =
     records-in (start-of (c .before .before .before .before .before .before .before .before)) .0
 
-part-step-packed-end : tie.Need-part-step-packed-end
-part-step-packed-end c =
+part-step-end : tie.Need-part-step-end
+part-step-end c =
     records-in (start-of (c .before .before .before .before .before .before .before .before)) .1
 
-step-packed-requires : tie.Need-step-packed-requires
-step-packed-requires c κs = search needs
+step-requires : tie.Need-step-requires
+step-requires c κs = search needs
 
 enum-known-a : tie.Need-enum-known-a
 enum-known-a c = search needs
@@ -143,14 +143,14 @@ enum-known-a-2 : tie.Need-enum-known-a-2
 enum-known-a-2 c = search needs
 
 -- where the command is known
-abbrev known : tie.After-step-packed → tie.After-d
+abbrev known : tie.After-step → tie.After-d
 known r = r .before .before .before .before .before .before .before
 
-abbrev bases-at : tie.After-step-packed → tie.After-bases
+abbrev bases-at : tie.After-step → tie.After-bases
 bases-at r = known r .before .before .before
 
 -- where the step has been made
-abbrev made : tie.After-w2 → tie.After-step-packed
+abbrev made : tie.After-w2 → tie.After-step
 made c = c .before .before .before .before .before .before .before
 
 put-requires : tie.Need-put-requires
@@ -163,7 +163,7 @@ put-requires c κs =
     let a = s .args in (
       omega (arith, c .before .put-arg .given),
       outcome-fits (a .input .now) (a .p) (kept-of s) (a .h) (s .pre .0) (b .bases .ensures .1)
-          (d .before .before .decode .ensures) (d .d .given .1) (r .step-packed .ensures) _ (a2 .a2 .given .1),
+          (d .before .before .decode .ensures) (d .d .given .1) (r .step .ensures) _ (a2 .a2 .given .1),
     )
 
 add-t67 : tie.Need-add-t67
@@ -192,7 +192,7 @@ returns-2 c =
     tells-last (a .line .now) (a .p) _ _ (c .ends2 .ensures)
     ∙ ap (toldFrom (a .line .now))
     (ends-refused (a .input .now) (a .p) (kept-of s) (a .h) (s .pre .0) (b .bases .ensures .1)
-    (d .before .before .decode .ensures) (d .d .given .1) (r .step-packed .ensures) _ (n .a .given .1))
+    (d .before .before .decode .ensures) (d .d .given .1) (r .step .ensures) _ (n .a .given .1))
 
 same-length-7 : tie.Need-same-length-7
 same-length-7 c = search needs
@@ -212,7 +212,7 @@ returns-3 c =
     let s = start-of b in
     let a = s .args in
     goes-on (a .input .now) (a .p) (kept-of s) (a .h) (s .pre .0) (b .bases .ensures .1)
-    (d .before .before .decode .ensures) (d .d .given .1) (r .step-packed .ensures) (a .line .now) _ (n .a2 .given .1)
+    (d .before .before .decode .ensures) (d .d .given .1) (r .step .ensures) (a .line .now) _ (n .a2 .given .1)
     (c .before .put .ensures)
 
 pub carry-out-spec : {M : Type 1} → statement M
@@ -223,26 +223,26 @@ carry-out-spec =
     decode-requires
     enum-known-d
     array-share-prefix-all
-    slice-aggregate-run-packed
-    sub-run-packed
-    part-run-packed-start
-    part-run-packed-end
-    sub-run-packed-2
-    part-run-packed-start-2
-    part-run-packed-end-2
-    slice-aggregate-run-packed-2
-    run-packed-requires
+    slice-aggregate-run
+    sub-run
+    part-run-start
+    part-run-end
+    sub-run-2
+    part-run-start-2
+    part-run-end-2
+    slice-aggregate-run-2
+    run-requires
     ends-requires
     same-length
     same-length-2
     same-length-3
     returns
     array-share-prefix-all-2
-    slice-aggregate-step-packed
-    sub-step-packed
-    part-step-packed-start
-    part-step-packed-end
-    step-packed-requires
+    slice-aggregate-step
+    sub-step
+    part-step-start
+    part-step-end
+    step-requires
     enum-known-a
     ends-requires-2
     enum-known-a-2

@@ -8,7 +8,7 @@ use native.Mathlib.Omega.{arith}
 use lib.ListN.{length}
 use Rattle.protocol.specs.declared.Refusal.the-variants.{InvalidState}
 use Rattle.protocol.specs.declared.Ending.the-variants.{Finished, Refused}
-use Rattle.page.specs.Kept.{Kept, kept}
+use Rattle.packed.specs.Kept.{Kept, kept}
 use Rattle.report.specs.Header.{Parsed, headerIn, parse}
 use Rattle.report.specs.Turn.{turnOf}
 use Rattle.report.specs.Calls.{toldFrom}
