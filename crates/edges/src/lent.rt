@@ -98,7 +98,7 @@ fn of_format(n: Numbers) -> Lent {
         places: places,
         page: [7; 300],
         long: places + places + q + size + q,
-        writer: page::resting(),
+        writer: fresh::resting(),
         states: [7; 459],
         kept: product(readers, 27),
         buffers: [7; 4400],

@@ -3,7 +3,7 @@ ghost use mathlib.Core.Path.{_≡_};
 ghost use Rattle.protocol.specs.Form.{formOf};
 ghost use Rattle.page.specs.Carry.{lent};
 ghost use Rattle.lagumtay.specs.Calls.{left, openCall};
-use page::Opened;
+use fresh::Opened;
 use protocol::Format;
 use protocol::Reader;
 use protocol::Writer;

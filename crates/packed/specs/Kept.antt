@@ -10,11 +10,12 @@ use Rattle.protocol.specs.Memory.{Memory}
 use Rattle.protocol.specs.declared.Command.{Command}
 use Rattle.protocol.specs.declared.Writer.{Writer}
 use Rattle.page.specs.declared.Answer.{Answer}
-use Rattle.page.specs.declared.Opened.{Opened}
+use Rattle.fresh.specs.declared.Opened.{Opened}
 use Rattle.page.specs.declared.Ran.{Ran}
 use Rattle.page.specs.declared.Stepped.{Stepped}
 use Rattle.page.specs.Carry.{lent}
-use Rattle.page.specs.Calls.{openLent, runLent, stepLent}
+use Rattle.fresh.specs.Opening.{openLent}
+use Rattle.page.specs.Calls.{runLent, stepLent}
 use Rattle.packed.specs.States.{packAll, unpackFrom}
 
 pub record Kept : Type 0 where

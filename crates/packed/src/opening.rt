@@ -1,24 +1,12 @@
 // The opening: that of the page over so many readers, and the bytes of idle ones, which are zeros.
 ghost use mathlib.Core.Path.{_≡_};
 ghost use Rattle.protocol.specs.Form.{formOf};
-ghost use Rattle.page.specs.Start.{refusing};
 ghost use Rattle.packed.specs.Kept.{kept, openedKept, openKept};
 use crate::keeping;
-use page::Opened;
-use protocol::Ending;
+use fresh::Opened;
 use protocol::Format;
 use protocol::Writer;
 use radix::Count;
-
-fn refuses(o: Opened) -> bool
-    ensures { λ r. ⌜ r ≡ refusing (o .ending) ⌝ }
-{
-    let e = o.ending;
-    match e {
-        Ending::Finished => false,
-        Ending::Refused(_) => true,
-    }
-}
 
 pub fn open(
     states: &mut [u8],
@@ -37,10 +25,10 @@ pub fn open(
         (now («record» .entry)) ⌝ }
 {
     let k = keeping::states_of(states.len());
-    let o = page::open_page(k, format, bases, page, writer, buffers, count, record);
-    if refuses(o) {
+    let o = fresh::open_page(k, format, bases, page, writer, buffers, count, record);
+    if fresh::was_refused(o) {
         return o;
     }
-    page::zero(states);
+    fresh::zero(states);
     o
 }

@@ -1,7 +1,4 @@
-pub mod Endings
 pub mod Every
-pub mod Filled
-pub mod Opened
 pub mod Cleared
 pub mod Starts
 pub mod Begun

@@ -4,7 +4,6 @@ pub mod Stored
 pub mod Digits
 pub mod More
 pub mod Fitting
-pub mod Zeros
 pub mod Begins
 pub mod Slots
 pub mod Counts

@@ -26,28 +26,10 @@ use Rattle.codec.specs.Encode.{encode}
 use Rattle.codec.specs.Entry.{outcomeIn}
 use Rattle.page.specs.declared.Answer.{Answer}
 use Rattle.page.specs.declared.Answer.the-variants.{Done, Refused}
-use Rattle.page.specs.declared.Opened.{Opened}
 use Rattle.page.specs.declared.Ran.{Ran}
 use Rattle.page.specs.declared.Stepped.{Stepped}
 use Rattle.page.specs.Start.{refusing}
-use Rattle.page.specs.Carry.{After, after, carryLent, onAnswer, idleReader}
-
--- AN OPENING
-pub record OpenedLent : Type 0 where
-  pub opened : Opened
-  pub memory : Memory
-
-abbrev pub openedLent : Opened → Memory → OpenedLent
-openedLent o L = record { opened = o; memory = L }
-
-unfoldable pub openLent : Form → Memory → Count → List ℕ → OpenedLent
-openLent F L c r =
-    let o = openPage F L c r in openedLent (record { ending = o .ending; writer = o .memory .writer }) (o .memory)
-
--- the readers that were lent, after an opening that ended so
-abbrev pub openedReaders : Ending → List Reader → List Reader
-openedReaders Finished rs = replicate (length rs) idleReader
-openedReaders (Ending.Refused why) rs = rs
+use Rattle.page.specs.Carry.{After, after, carryLent, onAnswer}
 
 -- A RUN
 pub record RanLent : Type 0 where

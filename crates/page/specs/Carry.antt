@@ -4,11 +4,11 @@ use mathlib.Core.List.{List}
 use mathlib.Core.Bool.{true, cond}
 use Prim.Native.Nat.{ℕ, _<_}
 use lib.Dec.{ltb}
-use lib.ListN.{length, getD, set, replicate}
+use lib.ListN.{length, getD, set}
 use Rattle.protocol.specs.Form.{Form, goodForm}
 use Rattle.protocol.specs.Outcome.{entry}
 use Rattle.protocol.specs.Step.{Answer as Meant, refused, done, carry}
-use Rattle.protocol.specs.Memory.{Memory, stageAt, readerOf, stored, goodLengths}
+use Rattle.protocol.specs.Memory.{Memory, stored, goodLengths}
 use Rattle.protocol.specs.Load.{load, validMemory}
 use Rattle.protocol.specs.declared.Command.{Command}
 use Rattle.protocol.specs.declared.Reader.{Reader}
@@ -18,10 +18,7 @@ use Rattle.page.specs.declared.Answer.{Answer}
 use Rattle.page.specs.declared.Answer.the-variants.{Done, Refused}
 use Rattle.page.specs.declared.pen.Carried.{Carried}
 use Rattle.page.specs.Reads.{Read, readsAt, ReadReady}
-
--- what is lent
-abbrev pub lent : (page : List ℕ) → Writer → List Reader → (buffers : List ℕ) → Memory
-lent p w rs b = record { page = p; writer = w; readers = rs; buffers = b }
+pub use Rattle.fresh.specs.Opening.{lent, idleReader}
 
 -- what holds at every command of a run
 pub record Ready (F : Form) (S : List ℕ) (L : Memory) : Type 0 where
@@ -50,9 +47,6 @@ abbrev pub carryLent : Form → List ℕ → (room : ℕ) → Memory → Command
 carryLent F S room L x = onAnswer F room L (carry F S (load F L) x)
 
 -- ONE READER'S COMMAND, in its place
-abbrev pub idleReader : Reader
-idleReader = readerOf (stageAt 0 0 0 0) (replicate 16 0)
-
 abbrev pub readerAt : List Reader → ℕ → Reader
 readerAt rs i = getD rs i idleReader
 

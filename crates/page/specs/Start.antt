@@ -13,10 +13,7 @@ use Rattle.protocol.specs.declared.Writer.{Writer}
 use Rattle.checks.specs.Layout.{small}
 use Rattle.checks.specs.Valid.{validReader}
 use Rattle.checks.specs.Start.{startOf}
-
-abbrev pub refusing : Ending → Bool
-refusing Finished = false
-refusing (Refused why) = true
+pub use Rattle.fresh.specs.Opening.{refusing}
 
 unfoldable pub startIf : Form → (records page : List ℕ) → Writer → (readers buffers : ℕ) → (valid : Bool) → Ending
 startIf F S page w k b valid =

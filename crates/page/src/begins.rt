@@ -83,7 +83,7 @@ pub(crate) fn drop_read(format: Format, bases: &[u16], stage: Stage, digits: &mu
     if stage.kind == 0 {
         return refused(Refusal::NothingPending, stage);
     }
-    ends::zero(digits);
+    fresh::zero(digits);
     Taken {
         answer: Answer::Done(Outcome::Nothing),
         stage: ends::idle(),

@@ -21,7 +21,7 @@ fn wide(x: u8) -> usize
 fn found(e: Ending, readers: usize, who: usize) -> Ending
     ensures { λ r. ⌜ r ≡ foundIn e readers who ⌝ }
 {
-    if starting::refuses(e) {
+    if fresh::refuses(e) {
         return e;
     }
     if readers <= who {
@@ -61,12 +61,12 @@ pub fn cancel(
     let n = readers.len();
     let i = wide(who);
     let f = found(e, n, i);
-    if starting::refuses(f) {
+    if fresh::refuses(f) {
         return f;
     }
     let r = readers[i];
     let p = reads(r);
-    if starting::refuses(p) {
+    if fresh::refuses(p) {
         return p;
     }
     opening::empty(&mut readers[i]);

@@ -1,6 +1,6 @@
 // The end of a read, where its last digit is put at 8 already: a refusal puts it back.
 ghost use mathlib.Core.Path.{_≡_};
-ghost use lib.ListN.{length, replicate};
+ghost use lib.ListN.{length};
 ghost use Rattle.protocol.specs.Form.{Form};
 ghost use Rattle.page.specs.Left.{Leaves, before, refusal, finished};
 use crate::Answer;
@@ -12,17 +12,6 @@ use protocol::Stage;
 pub(crate) struct Taken {
     pub(crate) answer: Answer,
     pub(crate) stage: Stage,
-}
-
-// The bytes become zeros.
-pub fn zero(bytes: &mut [u8])
-    ensures { λ r. ⌜ now (bytes .exit) ≡ replicate (length (now (bytes .entry))) 0 ⌝ }
-{
-    let mut k: usize = 0;
-    while k < bytes.len() {
-        bytes[k] = 0;
-        k = k + 1;
-    }
 }
 
 // A reader's stage when it has no read.
@@ -58,7 +47,7 @@ pub(crate) fn finish(stage: Stage, digits: &mut [u8], o: Outcome, room: usize) -
     if room < codec::size(o) {
         return back(stage, digits, Refusal::LogFull);
     }
-    zero(digits);
+    fresh::zero(digits);
     Taken {
         answer: Answer::Done(o),
         stage: idle(),

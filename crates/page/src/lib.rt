@@ -19,10 +19,7 @@ mod write_step;
 mod writing;
 
 pub use cancelling::cancel;
-pub use ends::zero;
 pub use opening::open;
-pub use opening::open_page;
-pub use pen::resting;
 use protocol::Ending;
 use protocol::Outcome;
 use protocol::Refusal;
@@ -30,12 +27,6 @@ use protocol::Writer;
 pub use running::run;
 pub use stepping::step;
 pub use stepping::told;
-
-// What an opening answers, and the writer as it leaves it.
-pub struct Opened {
-    pub ending: Ending,
-    pub writer: Writer,
-}
 
 // What a run answers: commands carried out, bytes of the commands taken, bytes written into the log, how it ended; and
 // the writer as it leaves it.

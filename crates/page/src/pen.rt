@@ -35,19 +35,6 @@ pub(crate) enum Inked {
     TooLarge,
 }
 
-// A writer with nothing pending.
-pub fn resting() -> Writer
-    ensures { λ r. ⌜ r ≡ storedWriting atRest ⌝ }
-{
-    Writer {
-        kind: 0,
-        count: Count(0),
-        version: Version(0),
-        index: 0,
-        steps: 0,
-    }
-}
-
 // A writer whose digits are not known yet.
 pub(crate) fn dry(w: Writer) -> Pen
     ensures { λ r. ⌜ r ≡ record { writer = w; known = 0; ink = 0 } ⌝ }

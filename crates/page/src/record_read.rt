@@ -40,7 +40,7 @@ fn again(stage: Stage, digits: &mut [u8], used: u8) -> Taken
     requires { ⌜ length (now digits) ≡ 16 ⌝ }
     ensures { λ r. ⌜ Leaves r (now (digits .exit)) (restarted stage used) ⌝ }
 {
-    ends::zero(digits);
+    fresh::zero(digits);
     let next = Stage {
         kind: stage.kind,
         allowed: stage.allowed,
@@ -73,7 +73,7 @@ fn give_up(
     if room < codec::size(o) {
         return ends::back(stage, digits, Refusal::LogFull);
     }
-    ends::zero(buffer);
+    fresh::zero(buffer);
     ends::finish(stage, digits, o, room)
 }
 

@@ -132,7 +132,7 @@ pub fn run(
 {
     let b = buffers.len();
     let e = starting::start(readers, format, bases, page, writer, b, records);
-    if starting::refuses(e) {
+    if fresh::refuses(e) {
         return refused_run(e, writer);
     }
     run_all(

@@ -6,7 +6,7 @@ ghost use Rattle.protocol.specs.Lists.{every};
 ghost use Rattle.protocol.specs.Form.{formOf};
 ghost use Rattle.checks.specs.Layout.{small};
 ghost use Rattle.checks.specs.Valid.{validReader};
-ghost use Rattle.page.specs.Start.{startIf, startFrom, refusing};
+ghost use Rattle.page.specs.Start.{startIf, startFrom};
 use protocol::Ending;
 use protocol::Format;
 use protocol::Reader;
@@ -29,15 +29,6 @@ fn readers_valid(readers: &[Reader], format: Format, bases: &[u16]) -> bool
     true
 }
 
-pub(crate) fn refuses(e: Ending) -> bool
-    ensures { λ r. ⌜ r ≡ refusing e ⌝ }
-{
-    match e {
-        Ending::Finished => false,
-        Ending::Refused(_) => true,
-    }
-}
-
 // Refusals 1 to 3, in this order, where the readers' states pass or not. Readers and buffers are told by their lengths.
 fn started(
     valid: bool,
@@ -53,7 +44,7 @@ fn started(
         readers buffers valid ⌝ }
 {
     let e = checks::checked(format, bases, page, writer, readers, buffers, records);
-    if refuses(e) {
+    if fresh::refuses(e) {
         return e;
     }
     if valid {

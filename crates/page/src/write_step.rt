@@ -84,7 +84,7 @@ fn onward(w: Writer, size: usize) -> Writer
 {
     let next = w.steps + 1;
     if next == size {
-        return pen::resting();
+        return fresh::resting();
     }
     Writer {
         kind: w.kind,

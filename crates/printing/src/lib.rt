@@ -17,7 +17,7 @@ fn print_lines(
     to: i32,
 ) {
     let mut line = [7u8; 640];
-    let s = report::start(input, more, page, page::resting(), states, buffers);
+    let s = report::start(input, more, page, fresh::resting(), states, buffers);
     let mut p = s.progress;
     let mut w = s.writer;
     let mut last = false;

@@ -6,8 +6,8 @@ use Rattle.radix.specs.declared.Count.{Count}
 use Rattle.protocol.specs.Form.{Form}
 use Rattle.protocol.specs.Memory.{Memory}
 use Rattle.protocol.specs.Outcome.{endingNumber}
-use Rattle.page.specs.declared.Opened.{Opened}
-use Rattle.page.specs.Calls.{OpenedLent, openedLent, openLent}
+use Rattle.fresh.specs.declared.Opened.{Opened}
+use Rattle.fresh.specs.Opening.{OpenedLent, openedLent, openLent}
 use Rattle.lagumtay.specs.Calls.{left, openCall}
 
 pub opened-left :

@@ -20,14 +20,14 @@ use Rattle.checks.proofs.Endings.{not-finished}
 use Rattle.checks.proofs.Parts.{sizes-lengths}
 use Rattle.checks.proofs.Opening.{openingIn, opens, open-refused}
 use Rattle.codec.specs.Packed.{packed}
-use Rattle.page.specs.declared.Opened.{Opened}
+use Rattle.fresh.specs.declared.Opened.{Opened}
 use Rattle.page.specs.Carry.{lent, idleReader}
 use Rattle.page.specs.Start.{refusing}
-use Rattle.page.specs.Calls.{OpenedLent, openedLent, openLent, openedReaders}
+use Rattle.fresh.specs.Opening.{OpenedLent, openedLent, openLent, openedReaders}
 use Rattle.packed.specs.States.{packAll, unpackFrom}
 use Rattle.packed.specs.Kept.{Kept, kept, statesOf, unpackedOf, packedOver, openedKept, openKept}
-use Rattle.page.proofs.Calls.Endings.{is-finished, cleared, stayed}
-use Rattle.page.proofs.Calls.Opened.{done-open as page-opened}
+use Rattle.fresh.proofs.Laws.Endings.{is-finished, cleared, stayed}
+use Rattle.fresh.proofs.Laws.Opens.{done-open as page-opened}
 use Rattle.packed.proofs.Laws.Packs.{unpacked-length}
 use Rattle.packed.proofs.Laws.RoundTrip.{Bytes}
 use Rattle.packed.proofs.Kept.States.{by-states, stays}

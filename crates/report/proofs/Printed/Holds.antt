@@ -17,7 +17,7 @@ use Rattle.protocol.proofs.InRange.{InRange, in-range}
 use Rattle.protocol.proofs.Allowed.Kept.{Fine}
 use Rattle.protocol.proofs.Allowed.Means.{GoodReading}
 use Rattle.protocol.proofs.Memory.Digits.{length-storedDigits}
-use Rattle.page.specs.Calls.{openLent}
+use Rattle.fresh.specs.Opening.{openLent}
 use Rattle.packed.specs.Kept.{Kept, statesOf, unpackedOf, packedOver, openKept}
 use Rattle.packed.proofs.Laws.Packs.{unpacked-length}
 use Rattle.packed.proofs.Laws.RoundTrip.{Lendable}

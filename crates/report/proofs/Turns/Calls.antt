@@ -16,7 +16,7 @@ use Rattle.codec.specs.Entry.{overlay, added}
 use Rattle.codec.specs.Decode.{decodeAt}
 use Rattle.codec.specs.declared.Decoded.{Decoded}
 use Rattle.page.specs.declared.Answer.the-variants.{Done, Refused}
-use Rattle.page.specs.declared.Opened.{Opened}
+use Rattle.fresh.specs.declared.Opened.{Opened}
 use Rattle.packed.specs.Kept.{Kept, openedKept, openKept, RanKept, runKept, SteppedKept, stepKept}
 use Rattle.page.proofs.Loop.NoCommand.{IsNone, no-command}
 use Rattle.report.specs.declared.header.Header.{Header as Found}

@@ -50,10 +50,10 @@ use Rattle.protocol.proofs.Writer as TW
 use Rattle.protocol.proofs.Writer.Laws as TW′
 use Rattle.protocol.proofs.Ending as TE
 use Rattle.protocol.proofs.Ending.Laws as TE′
-use Rattle.page.specs.declared.Opened.{Opened}
-use Rattle.page.proofs.Opened as TO
-use Rattle.page.proofs.Opened.Laws as TO′
-use Rattle.page.specs.Calls.{openedLent, openLent}
+use Rattle.fresh.specs.declared.Opened.{Opened}
+use Rattle.fresh.proofs.Opened as TO
+use Rattle.fresh.proofs.Opened.Laws as TO′
+use Rattle.fresh.specs.Opening.{openedLent, openLent}
 use Rattle.page.proofs.Walks.Rules.Flat.{_&_}
 use Rattle.page.proofs.Walks.Rules.Locals.{Slot, has, spread, wide, enters, leaves, arg}
 use Rattle.page.proofs.Walks.Rules.Again.{lends-on}

@@ -15,8 +15,8 @@ states-of-requires c κs = search needs
 open-page-requires : tie.Need-open-page-requires
 open-page-requires c κs = search needs
 
-refuses-requires : tie.Need-refuses-requires
-refuses-requires c κs = search needs
+was-refused-requires : tie.Need-was-refused-requires
+was-refused-requires c κs = search needs
 
 same-length : tie.Need-same-length
 same-length c = search needs
@@ -41,7 +41,7 @@ returns c =
     refused-open (form-of s) (kept-of s) (s .args .count) (s .args .«record» .now) (o .open-page .result) _ _
     (λ ss e. o .open-page .ensures ss (e ∙ sym (o .before .before .before .states-of .ensures)))
     (bytes-of (s .args .states .now) (λ i. omega (arith, n .slice-known .given i)))
-    (sym (c .before .refuses .ensures) ∙ c .if1 .taken)
+    (sym (c .before .was-refused .ensures) ∙ c .if1 .taken)
 
 zero-requires : tie.Need-zero-requires
 zero-requires c κs = search needs
@@ -65,7 +65,7 @@ returns-2 c =
     rw (z .zero .ensures)
     (done-open (form-of s) (kept-of s) (s .args .count) (s .args .«record» .now) (o .open-page .result) _ _
     (λ ss e. o .open-page .ensures ss (e ∙ sym (o .before .before .before .states-of .ensures)))
-    (sym (i .before .refuses .ensures) ∙ i .if1 .left))
+    (sym (i .before .was-refused .ensures) ∙ i .if1 .left))
 
 pub open-spec : {M : Type 1} → statement M
 open-spec =
@@ -73,7 +73,7 @@ open-spec =
     (tie.spec
     states-of-requires
     open-page-requires
-    refuses-requires
+    was-refused-requires
     same-length
     same-length-2
     returns

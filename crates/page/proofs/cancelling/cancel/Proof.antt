@@ -81,10 +81,10 @@ use Rattle.page.proofs.starting.start as g
 use Rattle.page.proofs.starting.start.Symbol as g-def
 use Rattle.page.proofs.starting.start.Symbol.{name as #start}
 use Rattle.page.proofs.starting.start.Met as g-thm
-use Rattle.page.proofs.starting.refuses as h
-use Rattle.page.proofs.starting.refuses.Symbol as h-def
-use Rattle.page.proofs.starting.refuses.Symbol.{name as #refuses}
-use Rattle.page.proofs.starting.refuses.Met as h-thm
+use Rattle.fresh.proofs.refuses as h
+use Rattle.fresh.proofs.refuses.Symbol as h-def
+use Rattle.fresh.proofs.refuses.Symbol.{name as #refuses}
+use Rattle.fresh.proofs.refuses.Met as h-thm
 use Rattle.page.proofs.cancelling.wide as i
 use Rattle.page.proofs.cancelling.wide.Symbol as i-def
 use Rattle.page.proofs.cancelling.wide.Symbol.{name as #wide}
@@ -450,7 +450,7 @@ cancel-spec 𝓤 H 𝓜 𝓖 𝓡 =
     (cited 𝓤 H (Starts 𝓤 H (𝓖 .A) (givenOf 𝓤 H 𝓜 𝓖) (𝓜 .mem) (𝓡 .run)) 𝓜 𝓡 code.env #start g-def.routine
     code.calls-page·starting·start (g-thm.met 𝓤 H 𝓜 𝓖 𝓡))
     (cited 𝓤 H (Refuses 𝓤 H (𝓖 .A) (givenOf 𝓤 H 𝓜 𝓖) (𝓜 .mem) (𝓡 .run)) 𝓜 𝓡 code.env #refuses h-def.routine
-    code.calls-page·starting·refuses (h-thm.met 𝓤 H 𝓜 𝓖 𝓡))
+    code.calls-fresh·refuses (h-thm.met 𝓤 H 𝓜 𝓖 𝓡))
     (cited 𝓤 H (Widens 𝓤 H (𝓖 .A) (givenOf 𝓤 H 𝓜 𝓖) (𝓜 .mem) (𝓡 .run)) 𝓜 𝓡 code.env #wide i-def.routine
     code.calls-page·cancelling·wide (i-thm.met 𝓤 H 𝓜 𝓖 𝓡))
     (cited 𝓤 H (Finds 𝓤 H (𝓖 .A) (givenOf 𝓤 H 𝓜 𝓖) (𝓜 .mem) (𝓡 .run)) 𝓜 𝓡 code.env #found j-def.routine

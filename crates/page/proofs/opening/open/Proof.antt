@@ -45,13 +45,13 @@ use Rattle.protocol.proofs.Format.Laws as TF′
 use Rattle.protocol.proofs.Reader as T
 use Rattle.protocol.proofs.Writer as TW
 use Rattle.protocol.proofs.Writer.Laws as TW′
-use Rattle.page.specs.declared.Opened.{Opened}
+use Rattle.fresh.specs.declared.Opened.{Opened}
 use Rattle.page.specs.Carry.{lent as at-hand, idleReader}
 use Rattle.page.specs.Start.{refusing}
-use Rattle.page.specs.Calls.{openedLent, openLent, openedReaders}
-use Rattle.page.proofs.Opened as TO
-use Rattle.page.proofs.Opened.Laws as TO′
-use Rattle.page.proofs.Calls.Endings.{cleared, stayed as as-lent}
+use Rattle.fresh.specs.Opening.{openedLent, openLent, openedReaders}
+use Rattle.fresh.proofs.Opened as TO
+use Rattle.fresh.proofs.Opened.Laws as TO′
+use Rattle.fresh.proofs.Laws.Endings.{cleared, stayed as as-lent}
 use Rattle.page.proofs.Walks.Rules.Flat.{_&_}
 use Rattle.page.proofs.Walks.Rules.Tests.{holds-true, holds-false}
 use Rattle.page.proofs.Walks.Rules.Kept.{Own}
@@ -62,14 +62,14 @@ use Rattle.page.proofs.Walks.Rules.Call.{answers}
 use Rattle.page.proofs.Walks.Rules.Asks.{made, lent, asked, told, asks-plain, lends}
 use Rattle.page.proofs.Walks.Rules.Said.{said, all-fit, all-go, Last, unchanged}
 use Rattle.page.proofs.Walks.Rules.Tokens.{binds, unbinds}
-use Rattle.page.proofs.opening.open_page as g
-use Rattle.page.proofs.opening.open_page.Symbol as g-def
-use Rattle.page.proofs.opening.open_page.Symbol.{name as #open-page}
-use Rattle.page.proofs.opening.open_page.Met as g-thm
-use Rattle.page.proofs.opening.refuses as h
-use Rattle.page.proofs.opening.refuses.Symbol as h-def
-use Rattle.page.proofs.opening.refuses.Symbol.{name as #refuses}
-use Rattle.page.proofs.opening.refuses.Met as h-thm
+use Rattle.fresh.proofs.open_page as g
+use Rattle.fresh.proofs.open_page.Symbol as g-def
+use Rattle.fresh.proofs.open_page.Symbol.{name as #open-page}
+use Rattle.fresh.proofs.open_page.Met as g-thm
+use Rattle.fresh.proofs.was_refused as h
+use Rattle.fresh.proofs.was_refused.Symbol as h-def
+use Rattle.fresh.proofs.was_refused.Symbol.{name as #refuses}
+use Rattle.fresh.proofs.was_refused.Met as h-thm
 use Rattle.page.proofs.opening.clear as k
 use Rattle.page.proofs.opening.clear.Symbol as k-def
 use Rattle.page.proofs.opening.clear.Symbol.{name as #clear}
@@ -267,8 +267,8 @@ open-spec 𝓤 H 𝓜 𝓖 𝓡 =
     (tables 𝓤 H 𝓜 𝓡 code.env .C) (tables 𝓤 H 𝓜 𝓡 code.env .Λ) #open code.function (code.unfolded 𝓤 H 𝓜 𝓡)
     (meets 𝓤 H (𝓖 .A) (givenOf 𝓤 H 𝓜 𝓖) (𝓜 .mem) (𝓡 .run) (tablesOf 𝓤 H 𝓜 (tables 𝓤 H 𝓜 𝓡 code.env))
     (cited 𝓤 H (Opens 𝓤 H (𝓖 .A) (givenOf 𝓤 H 𝓜 𝓖) (𝓜 .mem) (𝓡 .run)) 𝓜 𝓡 code.env #open-page g-def.routine
-    code.calls-page·opening·open-page (g-thm.met 𝓤 H 𝓜 𝓖 𝓡))
+    code.calls-fresh·open-page (g-thm.met 𝓤 H 𝓜 𝓖 𝓡))
     (cited 𝓤 H (Refuses 𝓤 H (𝓖 .A) (givenOf 𝓤 H 𝓜 𝓖) (𝓜 .mem) (𝓡 .run)) 𝓜 𝓡 code.env #refuses h-def.routine
-    code.calls-page·opening·refuses (h-thm.met 𝓤 H 𝓜 𝓖 𝓡))
+    code.calls-fresh·was-refused (h-thm.met 𝓤 H 𝓜 𝓖 𝓡))
     (cited 𝓤 H (Clears 𝓤 H (𝓖 .A) (givenOf 𝓤 H 𝓜 𝓖) (𝓜 .mem) (𝓡 .run)) 𝓜 𝓡 code.env #clear k-def.routine
     code.calls-page·opening·clear (k-thm.met 𝓤 H 𝓜 𝓖 𝓡)))

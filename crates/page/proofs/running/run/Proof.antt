@@ -59,7 +59,7 @@ use Rattle.page.specs.Start.{refusing, startFrom}
 use Rattle.page.specs.Calls.{ranLent, runLent, refusedRan}
 use Rattle.page.proofs.Ran as TR
 use Rattle.page.proofs.Ran.Laws as TR′
-use Rattle.page.proofs.Calls.Endings.{is-finished}
+use Rattle.fresh.proofs.Laws.Endings.{is-finished}
 use Rattle.page.proofs.Calls.Starts.{start-is}
 use Rattle.page.proofs.Calls.Begun.{begins, run-refused}
 use Rattle.page.proofs.Calls.Carries.{carries}
@@ -79,10 +79,10 @@ use Rattle.page.proofs.starting.start as g
 use Rattle.page.proofs.starting.start.Symbol as g-def
 use Rattle.page.proofs.starting.start.Symbol.{name as #start}
 use Rattle.page.proofs.starting.start.Met as g-thm
-use Rattle.page.proofs.starting.refuses as h
-use Rattle.page.proofs.starting.refuses.Symbol as h-def
-use Rattle.page.proofs.starting.refuses.Symbol.{name as #refuses}
-use Rattle.page.proofs.starting.refuses.Met as h-thm
+use Rattle.fresh.proofs.refuses as h
+use Rattle.fresh.proofs.refuses.Symbol as h-def
+use Rattle.fresh.proofs.refuses.Symbol.{name as #refuses}
+use Rattle.fresh.proofs.refuses.Met as h-thm
 use Rattle.page.proofs.running.refused_run as j
 use Rattle.page.proofs.running.refused_run.Symbol as j-def
 use Rattle.page.proofs.running.refused_run.Symbol.{name as #refused-run}
@@ -388,7 +388,7 @@ run-spec 𝓤 H 𝓜 𝓖 𝓡 =
     (cited 𝓤 H (Starts 𝓤 H (𝓖 .A) (givenOf 𝓤 H 𝓜 𝓖) (𝓜 .mem) (𝓡 .run)) 𝓜 𝓡 code.env #start g-def.routine
     code.calls-page·starting·start (g-thm.met 𝓤 H 𝓜 𝓖 𝓡))
     (cited 𝓤 H (Refuses 𝓤 H (𝓖 .A) (givenOf 𝓤 H 𝓜 𝓖) (𝓜 .mem) (𝓡 .run)) 𝓜 𝓡 code.env #refuses h-def.routine
-    code.calls-page·starting·refuses (h-thm.met 𝓤 H 𝓜 𝓖 𝓡))
+    code.calls-fresh·refuses (h-thm.met 𝓤 H 𝓜 𝓖 𝓡))
     (cited 𝓤 H (Tells 𝓤 H (𝓖 .A) (givenOf 𝓤 H 𝓜 𝓖) (𝓜 .mem) (𝓡 .run)) 𝓜 𝓡 code.env #refused-run j-def.routine
     code.calls-page·running·refused-run (j-thm.met 𝓤 H 𝓜 𝓖 𝓡))
     (cited 𝓤 H (Runs 𝓤 H (𝓖 .A) (givenOf 𝓤 H 𝓜 𝓖) (𝓜 .mem) (𝓡 .run)) 𝓜 𝓡 code.env #run-all k-def.routine

@@ -1,8 +1,8 @@
 -- The zeros are put into a part of what is lent.
 use borrow.Author.Needs.{needs}
-use Rattle.page.proofs.Calls.Filled.{zeros-over}
-use Rattle.page.proofs.opening.put_zeros.Statement.{statement}
-use Rattle.page.proofs.opening.put_zeros.Tie as tie
+use Rattle.fresh.proofs.Laws.Filled.{zeros-over}
+use Rattle.fresh.proofs.filling.put_zeros.Statement.{statement}
+use Rattle.fresh.proofs.filling.put_zeros.Tie as tie
 
 add-end : tie.Need-add-end
 add-end c = search needs

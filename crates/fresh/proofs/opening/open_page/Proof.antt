@@ -13,12 +13,12 @@ use Rattle.protocol.specs.declared.Reader.{Reader}
 use Rattle.protocol.proofs.Lists.Cases.{three}
 use Rattle.checks.specs.Start.{openingOf}
 use Rattle.checks.proofs.Opening.{openingIn, opens}
-use Rattle.page.specs.Held.{pageLength}
-use Rattle.page.specs.Carry.{lent}
-use Rattle.page.proofs.Calls.Endings.{is-finished}
-use Rattle.page.proofs.Calls.Opened.{refused-open, done-open}
-use Rattle.page.proofs.opening.open_page.Statement.{statement}
-use Rattle.page.proofs.opening.open_page.Tie as tie
+use Rattle.fresh.specs.Opening.{pageLength}
+use Rattle.fresh.specs.Opening.{lent}
+use Rattle.fresh.proofs.Laws.Endings.{is-finished}
+use Rattle.fresh.proofs.Laws.Opens.{refused-open, done-open}
+use Rattle.fresh.proofs.opening.open_page.Statement.{statement}
+use Rattle.fresh.proofs.opening.open_page.Tie as tie
 
 opens-requires : tie.Need-opens-requires
 opens-requires c κs = search needs

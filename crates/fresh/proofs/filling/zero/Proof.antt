@@ -4,10 +4,10 @@ use mathlib.Core.List.{_++_}
 use Prim.Native.Nat.{_-_, _≤_}
 use native.Mathlib.Omega.{arith}
 use lib.ListN.{length, drop, replicate}
-use Rattle.page.proofs.Readers.Zeros.{zero-long, zero-more, zero-all}
+use Rattle.fresh.proofs.Laws.Zeros.{zero-long, zero-more, zero-all}
 use borrow.Author.Needs.{needs}
-use Rattle.page.proofs.ends.zero.Statement.{statement}
-use Rattle.page.proofs.ends.zero.Tie as tie
+use Rattle.fresh.proofs.filling.zero.Statement.{statement}
+use Rattle.fresh.proofs.filling.zero.Tie as tie
 
 abbrev Inv-loop : tie.InvT-loop
 Inv-loop bytes₀ k₀ bytes k = (k ≤ length bytes₀) × (bytes ≡ replicate k 0 ++ drop k bytes₀)

@@ -8,9 +8,9 @@ use lib.ListN.{length, replicate}
 use Rattle.protocol.specs.declared.Ending.{Ending}
 use Rattle.protocol.specs.declared.Ending.the-variants.{Finished, Refused}
 use Rattle.protocol.specs.declared.Reader.{Reader}
-use Rattle.page.specs.Carry.{idleReader}
-use Rattle.page.specs.Start.{refusing}
-use Rattle.page.specs.Calls.{openedReaders}
+use Rattle.fresh.specs.Opening.{idleReader}
+use Rattle.fresh.specs.Opening.{refusing}
+use Rattle.fresh.specs.Opening.{openedReaders}
 
 pub is-finished : (e : Ending) → refusing e ≡ false → e ≡ Finished
 is-finished Finished h = refl

@@ -1,8 +1,8 @@
 -- The resting writer has zeros everywhere.
 use mathlib.Core.Path.{refl}
 use Rattle.protocol.specs.Memory.{storedWriting}
-use Rattle.page.proofs.pen.resting.Statement.{statement}
-use Rattle.page.proofs.pen.resting.Tie as tie
+use Rattle.fresh.proofs.opening.resting.Statement.{statement}
+use Rattle.fresh.proofs.opening.resting.Tie as tie
 
 returns : tie.Need-returns
 unfolding storedWriting

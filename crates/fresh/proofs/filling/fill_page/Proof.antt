@@ -12,9 +12,9 @@ use Rattle.protocol.specs.State.{opened}
 use Rattle.codec.specs.Entry.{overlay}
 use Rattle.checks.proofs.Small.{of-small}
 use Rattle.checks.proofs.Forms.{good-counts}
-use Rattle.page.proofs.Calls.Filled.{zero-digits, whole-digits, once, twice, both-written, second-length, filled}
-use Rattle.page.proofs.opening.fill_page.Statement.{statement}
-use Rattle.page.proofs.opening.fill_page.Tie as tie
+use Rattle.fresh.proofs.Laws.Filled.{zero-digits, whole-digits, once, twice, both-written, second-length, filled}
+use Rattle.fresh.proofs.filling.fill_page.Statement.{statement}
+use Rattle.fresh.proofs.filling.fill_page.Tie as tie
 
 count-steps-requires : tie.Need-count-steps-requires
 count-steps-requires c κs = search needs

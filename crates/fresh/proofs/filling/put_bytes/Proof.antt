@@ -6,8 +6,8 @@ use native.Mathlib.Omega.{arith}
 use lib.ListN.{length, set, getD}
 use lib.Seq.{paste, paste-zero}
 use Rattle.codec.proofs.Pastes.{paste-on, paste-size, paste-end}
-use Rattle.page.proofs.opening.put_bytes.Statement.{statement}
-use Rattle.page.proofs.opening.put_bytes.Tie as tie
+use Rattle.fresh.proofs.filling.put_bytes.Statement.{statement}
+use Rattle.fresh.proofs.filling.put_bytes.Tie as tie
 
 abbrev Inv-loop : tie.InvT-loop
 Inv-loop out₀ at bytes i₀ out i = (i ≤ length bytes) × (out ≡ paste out₀ at bytes i)

@@ -1,0 +1,4 @@
+pub mod Zeros
+pub mod Filled
+pub mod Endings
+pub mod Opens
