@@ -2,6 +2,7 @@
 pub mod Enters
 pub mod NoCommand
 pub mod Turned
+pub mod Stepper
 -- For the walk of `run_all`.
 pub mod Taken
 pub mod Going

@@ -1,5 +1,6 @@
 pub mod Held
 pub mod At
+pub mod Advance
 pub mod Left
 pub mod Reads
 pub mod Pen

@@ -8,6 +8,15 @@ use lib.ListN.{length, set}
 use Rattle.protocol.specs.Form.{Form}
 use Rattle.protocol.specs.Memory.{readerOf}
 use Rattle.protocol.specs.declared.Command.{Command}
+use Rattle.protocol.specs.declared.Command.the-variants.{
+  WriteCount,
+  WriteRecord,
+  WriterStep,
+  BeginCountRead,
+  BeginRecordRead,
+  ReaderStep,
+  Cancel,
+}
 use Rattle.protocol.specs.declared.Ending.{Ending}
 use Rattle.protocol.specs.declared.Ending.the-variants.{Finished}
 use Rattle.protocol.specs.declared.Reader.{Reader}
@@ -44,6 +53,10 @@ going z k = isGoing (z .verdict) && ltb (z .taken) k
 abbrev pub stopped : Standing → Refusal → Standing
 stopped z why = standing (Verdict.Stops why) (z .taken) (z .done) (z .written)
 
+-- a reader's step that ends nothing: two bytes, and no entry
+abbrev pub advanced : Standing → Standing
+advanced z = standing Verdict.Goes (z .taken + 2) (z .done + 1) (z .written)
+
 pub record Entered : Type 0 where
   pub standing : Standing
   pub log : List ℕ
@@ -74,6 +87,21 @@ abbrev pub whoseIn : Decoded → (none : ℕ) → ℕ
 whoseIn Decoded.Over none = none
 whoseIn Decoded.Unknown none = none
 whoseIn (Decoded.Is x next) none = whoseOf x none
+
+-- the reader of a step, or `none` for all else
+abbrev pub stepperOf : Command → (none : ℕ) → ℕ
+stepperOf (WriteCount c) none = none
+stepperOf (WriteRecord i) none = none
+stepperOf WriterStep none = none
+stepperOf (BeginCountRead r) none = none
+stepperOf (BeginRecordRead r a) none = none
+stepperOf (ReaderStep r) none = r
+stepperOf (Cancel r) none = none
+
+unfoldable pub stepperIn : Decoded → (none : ℕ) → ℕ
+stepperIn Decoded.Over none = none
+stepperIn Decoded.Unknown none = none
+stepperIn (Decoded.Is x next) none = stepperOf x none
 
 -- of one reader
 pub record OneTurn : Type 0 where

@@ -1,11 +1,12 @@
 // A step of a count read: c1 left to right, then c2 right to left, and the count that they show.
 ghost use mathlib.Core.Path.{_≡_};
-ghost use Prim.Native.Nat.{_≤_};
-ghost use lib.ListN.{length};
+ghost use Prim.Native.Nat.{_+_, _≤_, _<_};
+ghost use lib.ListN.{length, set};
 ghost use Rattle.radix.specs.Answers.{endsOf};
 ghost use Rattle.protocol.specs.Form.{formOf};
 ghost use Rattle.protocol.specs.Memory.{readerOf};
 ghost use Rattle.protocol.specs.Load.{loadReading};
+ghost use Rattle.checks.specs.Layout.{slotOf};
 ghost use Rattle.page.specs.Held.{Fits};
 ghost use Rattle.page.specs.At.{AtCount};
 ghost use Rattle.page.specs.Left.{Leaves, stepped, Whole, copyOne, copyTwo, countEnded};
@@ -64,6 +65,17 @@ fn end_count(
     }
 }
 
+// The digit of step k in its place.
+pub(crate) fn gather(bases: &[u16], k: usize, digits: &mut [u8], digit: u8)
+    requires { ⌜ (length (now bases) ≤ 8) × (k < length (now bases) + length (now bases))
+        × (length (now digits) ≡ 16) ⌝ }
+    ensures { λ r. ⌜ now (digits .exit)
+        ≡ set (now (digits .entry)) (slotOf (length (now (bases .entry))) k) digit ⌝ }
+{
+    let p = layout::slot(bases.len(), k);
+    digits[p] = digit;
+}
+
 // One step.
 pub(crate) fn take_count(
     format: Format,
@@ -81,8 +93,7 @@ pub(crate) fn take_count(
         (stepped (formOf (now (bases .entry)) format) who digit room (readerOf stage (now (digits .entry)))) ⌝ }
 {
     let k = stage.steps;
-    let p = layout::slot(bases.len(), k);
-    digits[p] = digit;
+    gather(bases, k, digits, digit);
     if k + 1 < layout::count_steps(format, bases) {
         let on = Stage {
             kind: stage.kind,

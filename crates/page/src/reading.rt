@@ -1,14 +1,19 @@
 // One command of one reader: its numbers by value, its digits and its buffer lent. The page is only read.
 ghost use mathlib.Core.Path.{_≡_};
-ghost use Prim.Native.Nat.{_<_};
+ghost use mathlib.Core.Bool.{true};
+ghost use Prim.Native.Nat.{ℕ, _<_};
 ghost use lib.ListN.{length};
-ghost use Rattle.protocol.specs.Form.{formOf};
+ghost use Rattle.protocol.specs.Form.{formOf, goodForm};
 ghost use Rattle.protocol.specs.Step.{nextPosition};
 ghost use Rattle.protocol.specs.Memory.{readerOf};
 ghost use Rattle.protocol.specs.Load.{loadReading};
+ghost use Rattle.protocol.specs.declared.Command.the-variants.{ReaderStep};
+ghost use Rattle.protocol.specs.declared.Outcome.the-variants.{Nothing};
+ghost use Rattle.page.specs.declared.Answer.the-variants.{Done};
 ghost use Rattle.page.specs.Held.{Held, pageLength};
 ghost use Rattle.page.specs.Left.{leftBy, stepped, Ready};
-ghost use Rattle.page.specs.Reads.{readBy, readsAt, ReadReady};
+ghost use Rattle.page.specs.Reads.{read, readBy, readsAt, ReadReady};
+ghost use Rattle.page.specs.Advance.{advancing, onward};
 use crate::Answer;
 use crate::begins;
 use crate::count_read;
@@ -62,6 +67,52 @@ fn take(
         return count_read::take_count(format, bases, who, stage, digits, digit, room);
     }
     record_read::take_record(format, bases, who, stage, digits, buffer, digit, room)
+}
+
+// Does the next step end nothing, neither the read nor the attempt?
+pub(crate) fn advances(format: Format, bases: &[u16], stage: Stage) -> bool
+    requires { ⌜ (goodForm (formOf (now bases) format) ≡ true) × (stage .steps < 18446744073709551615) ⌝ }
+    ensures { λ r. ⌜ r ≡ advancing (formOf (now (bases .entry)) format) stage ⌝ }
+{
+    if stage.kind == 1 {
+        return stage.steps + 1 < layout::count_steps(format, bases);
+    }
+    if stage.kind == 2 {
+        return stage.steps + 1 < layout::record_steps(format, bases);
+    }
+    false
+}
+
+// A step of reader i that ends nothing: its digit is put in its place. The steps taken.
+pub(crate) fn advance(
+    i: usize,
+    stage: Stage,
+    digits: &mut [u8; 16],
+    format: Format,
+    bases: &[u16],
+    page: &mut [u8],
+    buffers: &mut [u8],
+) -> usize
+    requires { ⌜ ReadReady (formOf (now bases) format) (now page) (readerOf stage (now digits)) (now buffers) i
+        (ReaderStep i)
+        × (advancing (formOf (now bases) format) stage ≡ true) ⌝ }
+    ensures { λ r. ⌜ (now (page .exit) ≡ now (page .entry)) × ((room : ℕ) →
+        read (Done Nothing) (readerOf (onward stage r) (now (digits .exit))) (now (buffers .exit))
+        ≡ readsAt (formOf (now (bases .entry)) format) (now (page .entry)) i room
+        (readerOf stage (now (digits .entry))) (now (buffers .entry)) (ReaderStep i)) ⌝ }
+{
+    let k = stage.steps;
+    let p = position(format, bases, stage, digits);
+    let d = page[p];
+    if stage.kind == 1 {
+        count_read::gather(bases, k, digits, d);
+        return k + 1;
+    }
+    let n = format.n;
+    let from = i * n;
+    let to = from + n;
+    record_read::gather(format, bases, k, digits, &mut buffers[from..to], d);
+    k + 1
 }
 
 // One command of reader i.

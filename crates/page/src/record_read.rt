@@ -1,16 +1,16 @@
 // A step of an attempt at a record read: v2 left to right, the bytes, v1 right to left, and the end of the attempt.
 ghost use mathlib.Core.Path.{_≡_};
-ghost use mathlib.Core.Bool.{true, false};
-ghost use Prim.Native.Nat.{_≤_};
+ghost use mathlib.Core.Bool.{true};
+ghost use Prim.Native.Nat.{_≤_, _<_};
 ghost use lib.ListN.{length, replicate};
 ghost use Rattle.radix.specs.Digits.{value, valid};
 ghost use Rattle.radix.specs.Answers.{goodBases};
-ghost use Rattle.protocol.specs.Form.{Form, formOf};
+ghost use Rattle.protocol.specs.Form.{Form, formOf, recordSteps, goodForm};
 ghost use Rattle.protocol.specs.Memory.{readerOf};
 ghost use Rattle.protocol.specs.Load.{loadReading};
-ghost use Rattle.checks.specs.Layout.{inContent};
 ghost use Rattle.page.specs.Held.{Fits};
 ghost use Rattle.page.specs.At.{AtRecord};
+ghost use Rattle.page.specs.Advance.{digitsWith, bufferWith};
 ghost use Rattle.page.specs.Left.{leftBy, Leaves, before, stepped, restarted, gaveUp, WholeAttempt, AttemptEnds};
 use crate::Answer;
 use crate::ends;
@@ -110,41 +110,30 @@ fn end_attempt(
     give_up(who, stage, digits, buffer, used, room)
 }
 
-// A step that reads a digit of a version.
-fn take_version(
+// The digit of step k in its place: a byte of the record in the buffer, a digit of a version with the digits.
+pub(crate) fn gather(
     format: Format,
     bases: &[u16],
-    who: u8,
-    stage: Stage,
+    k: usize,
     digits: &mut [u8],
     buffer: &mut [u8],
     digit: u8,
-    room: usize,
-) -> Taken
-    requires { ⌜ AtRecord (formOf (now bases) format) (readerOf stage (now digits))
-        × Fits (formOf (now bases) format) (loadReading (formOf (now bases) format) (readerOf stage (now digits))) digit
-        × (length (now buffer) ≡ format .n)
-        × (inContent (formOf (now bases) format) (stage .steps) ≡ false) ⌝ }
-    ensures { λ r. ⌜ leftBy r (now (digits .exit)) (now (buffer .exit))
-        ≡ stepped (formOf (now (bases .entry)) format) who digit room (readerOf stage (now (digits .entry)))
-        (now (buffer .entry)) ⌝ }
+)
+    requires { ⌜ (goodForm (formOf (now bases) format) ≡ true)
+        × (k < recordSteps (formOf (now bases) format))
+        × (length (now digits) ≡ 16)
+        × (length (now buffer) ≡ format .n) ⌝ }
+    ensures { λ r. ⌜ (now (digits .exit)
+        ≡ digitsWith (formOf (now (bases .entry)) format) k digit (now (digits .entry)))
+        × (now (buffer .exit) ≡ bufferWith (formOf (now (bases .entry)) format) k digit (now (buffer .entry))) ⌝ }
 {
-    let k = stage.steps;
+    if layout::in_content(format, bases, k) {
+        let at = k - format.q;
+        buffer[at] = digit;
+        return;
+    }
     let p = layout::slot(format.q, layout::version_digits(format, bases, k));
     digits[p] = digit;
-    if k + 1 < layout::record_steps(format, bases) {
-        let on = Stage {
-            kind: stage.kind,
-            allowed: stage.allowed,
-            finished: stage.finished,
-            steps: k + 1,
-        };
-        return Taken {
-            answer: Answer::Done(Outcome::Nothing),
-            stage: on,
-        };
-    }
-    end_attempt(format, bases, who, stage, digits, buffer, room)
 }
 
 // One step.
@@ -166,9 +155,8 @@ pub(crate) fn take_record(
         (now (buffer .entry)) ⌝ }
 {
     let k = stage.steps;
-    if layout::in_content(format, bases, k) {
-        let at = k - format.q;
-        buffer[at] = digit;
+    gather(format, bases, k, digits, buffer, digit);
+    if k + 1 < layout::record_steps(format, bases) {
         let on = Stage {
             kind: stage.kind,
             allowed: stage.allowed,
@@ -180,5 +168,5 @@ pub(crate) fn take_record(
             stage: on,
         };
     }
-    take_version(format, bases, who, stage, digits, buffer, digit, room)
+    end_attempt(format, bases, who, stage, digits, buffer, room)
 }

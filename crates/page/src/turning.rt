@@ -4,9 +4,10 @@ ghost use Prim.Native.Nat.{_≤_, _<_};
 ghost use lib.ListN.{length};
 ghost use Rattle.protocol.specs.Form.{formOf};
 ghost use Rattle.protocol.specs.Memory.{readerOf};
+ghost use Rattle.codec.specs.Decode.{decodeAt};
 ghost use Rattle.page.specs.Pen.{Knows};
 ghost use Rattle.page.specs.Writes.{WriteReady};
-ghost use Rattle.page.specs.Loop.{whoseIn, oneTurnBy, readTurn, TurnReady, penTurnBy, writeTurn, NoReaderIn};
+ghost use Rattle.page.specs.Loop.{whoseIn, stepperIn, oneTurnBy, readTurn, TurnReady, penTurnBy, writeTurn, NoReaderIn};
 use crate::looping;
 use crate::looping::Standing;
 use crate::pen::Pen;
@@ -50,6 +51,20 @@ pub(crate) fn whose(d: Decoded, none: usize) -> usize
         Command::ReaderStep(who) => wide(who),
         Command::Cancel(who) => wide(who),
     }
+}
+
+// The reader of the step that is at this place, or `none` if there is another command, or none.
+pub(crate) fn stepper(commands: &[u8], at: usize, none: usize) -> usize
+    requires { ⌜ at < length (now commands) ⌝ }
+    ensures { λ r. ⌜ r ≡ stepperIn (decodeAt (now (commands .entry)) at) none ⌝ }
+{
+    if commands[at] != 6 {
+        return none;
+    }
+    if commands.len() - at < 2 {
+        return none;
+    }
+    wide(commands[at + 1])
 }
 
 // The same stage, field by field: its padding would be copied at each command.

@@ -138,17 +138,28 @@ module _ (F : Form) (page : List ℕ) (i room : ℕ) (x : Reader) (bs : List ℕ
       unfolding whoseOf
       same = sym (ap (λ z. whoseOf z (F .readers)) e) ∙ own
 
+      step-meant : (p : ℕ) (z : Left) → p ≡ nextPosition F y → z ≡ stepped F r (getD page p 0) room x b
+          → z ≡ meant (reads F page i y b c)
+      unfolding reads
+      step-meant p z at h =
+          h
+          ∙ ap (λ q. meant (gather F r (getD page q 0) y b)) at
+          ∙ ap (λ w. meant (gather F w (getD page (nextPosition F y) 0) y b)) same
+          ∙ ap (λ z. meant (reads F page i y b z)) (sym e)
+
       pub reads-step :
           (p : ℕ) (t : Taken) (l b′ : List ℕ) → p ≡ nextPosition F y →
           leftBy t l b′
           ≡ stepped F r (getD page p 0) room x (take (i * F .n + F .n - i * F .n) (drop (i * F .n) bs)) →
           Reads t l (putMid (i * F .n) (i * F .n + F .n - i * F .n) bs b′)
-      unfolding reads
       reads-step p t l b′ at h =
           ap (readBy t l) (back-part (F .n) i bs b′)
           ∙ placed c t l b′
-          (h
-          ∙ ap (λ (z : List ℕ). stepped F r (getD page p 0) room x z) (lent-part (F .n) i bs)
-          ∙ ap (λ q. meant (gather F r (getD page q 0) y b)) at
-          ∙ ap (λ w. meant (gather F w (getD page (nextPosition F y) 0) y b)) same
-          ∙ ap (λ z. meant (reads F page i y b z)) (sym e))
+          (step-meant p (leftBy t l b′) at
+          (h ∙ ap (λ (z : List ℕ). stepped F r (getD page p 0) room x z) (lent-part (F .n) i bs)))
+
+      -- the buffer stays
+      pub reads-digit :
+          (p : ℕ) (t : Taken) (l : List ℕ) → p ≡ nextPosition F y → Leaves t l (stepped F r (getD page p 0) room x) →
+          Reads t l bs
+      reads-digit p t l at h = kept c t l (step-meant p (leftBy t l b) at (h b))

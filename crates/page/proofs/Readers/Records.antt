@@ -2,16 +2,16 @@
 use mathlib.Core.Path.{_≡_, refl, sym, ap, ap₂, subst, _∙_}
 use mathlib.Core.Logic.{_⊎_, inl, inr}
 use mathlib.Core.List.{List, _∷_}
-use mathlib.Core.Bool.{Bool, true, false, _&&_}
+use mathlib.Core.Bool.{Bool, true, false, _&&_, cond}
 use Prim.Native.Nat.{ℕ, zero, suc, _+_, _-_, _≤_, _<_}
 use native.Mathlib.Omega.{arith}
 use lib.Dec.{ltb, leb}
 use lib.ListN.{length, getD, set, drop, take, length-set}
-use borrow.Author.Tests.{lt-ltb, le-ltb, leb-false, leb-true, ltb-false, ltb-true}
+use borrow.Author.Tests.{lt-ltb, le-ltb, le-leb, leb-false, leb-true, ltb-false, ltb-true}
 use Rattle.protocol.specs.Form.{Form, versionBases, recordSteps}
 use Rattle.protocol.specs.State.{ofRecord}
 use Rattle.protocol.specs.Step.{gathered, endAttempt, gather}
-use Rattle.protocol.specs.Memory.{stageAt, readerOf, storedDigits, storedReading}
+use Rattle.protocol.specs.Memory.{readerOf, storedDigits, storedReading}
 use Rattle.protocol.specs.Load.{loadReading}
 use Rattle.protocol.specs.Allowed.{versionDigits}
 use Rattle.protocol.specs.declared.Outcome.the-variants.{Nothing}
@@ -23,6 +23,7 @@ use Rattle.checks.proofs.Digits.Valid.{fit-valid, every-at}
 use Rattle.page.specs.declared.Answer.the-variants.{Done}
 use Rattle.page.specs.Held.{Fits}
 use Rattle.page.specs.At.{AtRecord}
+use Rattle.page.specs.Advance.{onward, digitsWith, bufferWith}
 use Rattle.page.specs.Left.{Left, left, onGathered, stepped, WholeAttempt, Copies, AttemptEnds}
 use Rattle.page.proofs.Readers.Fitting.{version-copyA, version-copyB}
 use Rattle.page.proofs.Readers.More.{stored-more, last-place, last-copyA, last-copyB, last-back}
@@ -60,8 +61,7 @@ module _ (F : Form) (s : Stage) (l : List ℕ) (at : AtRecord F (readerOf s l)) 
       gather F who d (ofRecord (s .allowed) (s .finished) (s .steps) ds) b
       ≡ gathered (ofRecord (s .allowed) (s .finished) (suc (s .steps)) es) b′ Nothing →
       l′ ≡ storedDigits (F .q) (length es - F .q) es →
-      left (Done Nothing)
-      (readerOf (stageAt (s .kind) (s .allowed) (s .finished) (s .steps + 1)) l′) b′
+      left (Done Nothing) (readerOf (onward s (s .steps + 1)) l′) b′
       ≡ stepped F who d room x b
   unfolding storedReading
   moved who room b es l′ b′ g e =
@@ -72,86 +72,109 @@ module _ (F : Form) (s : Stage) (l : List ℕ) (at : AtRecord F (readerOf s l)) 
       (same-fields (storedReading F (ofRecord (s .allowed) (s .finished) (suc (s .steps)) es)) _ (sym (at .kind))
       refl refl (omega arith) (sym e)))
 
-  pub record-byte :
+  -- A STEP THAT ENDS NOTHING
+  byte-on :
       (who room : ℕ) (b : List ℕ) → inContent F (s .steps) ≡ true →
-      left (Done Nothing)
-      (readerOf (stageAt (s .kind) (s .allowed) (s .finished) (s .steps + 1)) l)
-      (set b (s .steps - F .q) d)
+      left (Done Nothing) (readerOf (onward s (s .steps + 1)) l) (set b (s .steps - F .q) d)
       ≡ stepped F who d room x b
   unfolding gather
-  record-byte who room b h = moved who room b ds l (set b (s .steps - F .q) d) (rw h) (at .digits)
+  byte-on who room b h = moved who room b ds l (set b (s .steps - F .q) d) (rw h) (at .digits)
 
-  -- A DIGIT OF A VERSION
-  module _ (out : inContent F (s .steps) ≡ false) where
-    -- in its place
-    abbrev after : List ℕ
-    after = set l (slotOf (F .q) (versionDigits F (s .steps))) d
+  -- a digit of a version, in its place
+  abbrev after : List ℕ
+  after = set l (slotOf (F .q) (versionDigits F (s .steps))) d
 
-    few : length ds < F .q + F .q
-    few = omega (arith, at .size, at .few, at .places)
+  narrow : F .q ≤ 8
+  narrow = omega (arith, at .places)
 
-    narrow : F .q ≤ 8
-    narrow = omega (arith, at .places)
+  few : inContent F (s .steps) ≡ false → length ds < F .q + F .q
+  few out = let o = outside F (s .steps) out in omega (arith, at .size, at .few, at .places)
 
-    pub record-on :
-        (who room : ℕ) (b : List ℕ) → s .steps + 1 < F .q + F .n + F .q →
-        left (Done Nothing)
-        (readerOf (stageAt (s .kind) (s .allowed) (s .finished) (s .steps + 1)) after)
-        b
-        ≡ stepped F who d room x b
+  version-on :
+      (who room : ℕ) (b : List ℕ) → inContent F (s .steps) ≡ false → s .steps + 1 < F .q + F .n + F .q →
+      left (Done Nothing) (readerOf (onward s (s .steps + 1)) after) b ≡ stepped F who d room x b
+  unfolding gather
+  version-on who room b out h =
+      let g : suc (s .steps) < recordSteps F = omega arith in
+      moved who room b (d ∷ ds) after b (rw (out, lt-ltb (suc (s .steps)) (recordSteps F) g))
+      (ap₂ (λ (y : List ℕ) k. set y (slotOf (F .q) k) d) (at .digits) (sym (at .size))
+      ∙ stored-more (F .q) narrow d ds (few out))
+
+  pub record-on :
+      (who room : ℕ) (b : List ℕ) → s .steps + 1 < F .q + F .n + F .q →
+      left (Done Nothing) (readerOf (onward s (s .steps + 1)) (digitsWith F (s .steps) d l)) (bufferWith F (s .steps) d b)
+      ≡ stepped F who d room x b
+  record-on who room b h = go (inContent F (s .steps)) refl
+    where
+      go :
+          (t : Bool) → inContent F (s .steps) ≡ t →
+          left (Done Nothing) (readerOf (onward s (s .steps + 1)) (cond t l after)) (cond t (set b (s .steps - F .q) d) b)
+          ≡ stepped F who d room x b
+      go true e = byte-on who room b e
+      go false e = version-on who room b e h
+
+  -- THE LAST ONE: a digit of a version
+  module _ (h : F .q + F .n + F .q ≤ s .steps + 1) where
+    out : inContent F (s .steps) ≡ false
+    out =
+        let p = at .places in
+        rw (le-leb (F .q) (s .steps) (omega arith), le-ltb (s .steps) (F .q + F .n) (omega arith))
+
+    full : suc (length ds) ≡ F .q + F .q
+    full = omega (arith, at .size, at .few, at .places)
+
+    eighth : after ≡ set l 8 d
+    eighth = ap (λ k. set l (slotOf (F .q) k) d) (sym (at .size))
+        ∙ ap (λ p. set l p d) (last-place (F .q) narrow d ds (at .places .1) full)
+
+    copies : Copies (F .q) (d ∷ ds) after
+    copies = record {
+      one = ap (take (F .q)) eighth ∙ last-copyA (F .q) narrow d ds (at .places .1) full l (at .digits);
+      two =
+          ap (λ (y : List ℕ). take (F .q) (drop 8 y)) eighth
+          ∙ last-copyB (F .q) narrow d ds (at .places .1) full l (at .digits);
+    }
+
+    back : set after 8 0 ≡ l
+    back = ap (λ (y : List ℕ). set y 8 0) eighth
+        ∙ last-back (F .q) narrow d ds (at .places .1) full l (at .digits)
+
+    low : Fits F (loadReading F x) d → (k : ℕ) → k < length (d ∷ ds) → getD (d ∷ ds) k 0 < F .base
+    low t zero g = subst (λ σ. Fits F σ d) (at .is) t (outside F (s .steps) out)
+    low t (suc k) g = every-at (F .base) ds (at .low) k (omega arith)
+
+    whole : (b : List ℕ) → length b ≡ F .n → Fits F (loadReading F x) d → WholeAttempt F s after b
+    whole b size t = record {
+      form = at .form;
+      places = (at .places .1, at .places .2);
+      long = length-set l _ d ∙ at .long;
+      one = rw (copies .one)
+          (fit-valid (versionBases F) _ (version-copyA (F .q) (F .base) (d ∷ ds) full (low t)));
+      two = rw (copies .two)
+          (fit-valid (versionBases F) _ (version-copyB (F .q) (F .base) (d ∷ ds) full (low t)));
+      kind = at .kind;
+      left = at .left;
+      size = size;
+    }
+
+    last : (who room : ℕ) (b : List ℕ) (y : Left) → AttemptEnds F who room s after b y → y ≡ stepped F who d room x b
     unfolding gather
-    record-on who room b h =
-        let g : suc (s .steps) < recordSteps F = omega arith in
-        moved who room b (d ∷ ds) after b (rw (out, lt-ltb (suc (s .steps)) (recordSteps F) g))
-        (ap₂ (λ (y : List ℕ) k. set y (slotOf (F .q) k) d) (at .digits) (sym (at .size))
-        ∙ stored-more (F .q) narrow d ds few)
+    last who room b y ends =
+        let g : recordSteps F ≤ suc (s .steps) = omega arith in
+        ends (d ∷ ds) copies
+        ∙ ap (λ (z : List ℕ).
+        onGathered F room (readerOf s z) b (endAttempt F who (s .allowed) (s .finished) b (d ∷ ds))) back
+        ∙ ap (onGathered F room x b) (rw (out, le-ltb (suc (s .steps)) (recordSteps F) g))
+        ∙ step-is who room b
 
-    -- the last one
-    module _ (h : F .q + F .n + F .q ≤ s .steps + 1) where
-      full : suc (length ds) ≡ F .q + F .q
-      full = omega (arith, at .size, at .few, at .places)
+    -- as the code puts it
+    pub record-whole :
+        (b : List ℕ) → length b ≡ F .n → Fits F (loadReading F x) d →
+        WholeAttempt F s (digitsWith F (s .steps) d l) (bufferWith F (s .steps) d b)
+    record-whole b size t = rw out (whole b size t)
 
-      eighth : after ≡ set l 8 d
-      eighth = ap (λ k. set l (slotOf (F .q) k) d) (sym (at .size))
-          ∙ ap (λ p. set l p d) (last-place (F .q) narrow d ds (at .places .1) full)
-
-      copies : Copies (F .q) (d ∷ ds) after
-      copies = record {
-        one = ap (take (F .q)) eighth ∙ last-copyA (F .q) narrow d ds (at .places .1) full l (at .digits);
-        two =
-            ap (λ (y : List ℕ). take (F .q) (drop 8 y)) eighth
-            ∙ last-copyB (F .q) narrow d ds (at .places .1) full l (at .digits);
-      }
-
-      back : set after 8 0 ≡ l
-      back = ap (λ (y : List ℕ). set y 8 0) eighth
-          ∙ last-back (F .q) narrow d ds (at .places .1) full l (at .digits)
-
-      low : Fits F (loadReading F x) d → (k : ℕ) → k < length (d ∷ ds) → getD (d ∷ ds) k 0 < F .base
-      low t zero g = subst (λ σ. Fits F σ d) (at .is) t (outside F (s .steps) out)
-      low t (suc k) g = every-at (F .base) ds (at .low) k (omega arith)
-
-      pub record-whole : (b : List ℕ) → length b ≡ F .n → Fits F (loadReading F x) d → WholeAttempt F s after b
-      record-whole b size t = record {
-        form = at .form;
-        places = (at .places .1, at .places .2);
-        long = length-set l _ d ∙ at .long;
-        one = rw (copies .one)
-            (fit-valid (versionBases F) _ (version-copyA (F .q) (F .base) (d ∷ ds) full (low t)));
-        two = rw (copies .two)
-            (fit-valid (versionBases F) _ (version-copyB (F .q) (F .base) (d ∷ ds) full (low t)));
-        kind = at .kind;
-        left = at .left;
-        size = size;
-      }
-
-      pub record-last :
-          (who room : ℕ) (b : List ℕ) (y : Left) → AttemptEnds F who room s after b y → y ≡ stepped F who d room x b
-      unfolding gather
-      record-last who room b y ends =
-          let g : recordSteps F ≤ suc (s .steps) = omega arith in
-          ends (d ∷ ds) copies
-          ∙ ap (λ (z : List ℕ).
-          onGathered F room (readerOf s z) b (endAttempt F who (s .allowed) (s .finished) b (d ∷ ds))) back
-          ∙ ap (onGathered F room x b) (rw (out, le-ltb (suc (s .steps)) (recordSteps F) g))
-          ∙ step-is who room b
+    pub record-last :
+        (who room : ℕ) (b : List ℕ) (y : Left) →
+        AttemptEnds F who room s (digitsWith F (s .steps) d l) (bufferWith F (s .steps) d b) y →
+        y ≡ stepped F who d room x b
+    record-last who room b y ends = last who room b y (rw out at ends)

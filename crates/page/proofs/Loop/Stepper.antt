@@ -1,0 +1,81 @@
+-- A place where a reader's step is, and any other.
+use mathlib.Core.Path.{_≡_, refl, sym, ap, ap₂, _∙_}
+use mathlib.Core.List.{List, _∷_}
+use mathlib.Core.Bool.{Bool, true, false, cond}
+use Prim.Native.Nat.{ℕ, _+_, _-_, _≤_, _<_}
+use native.Mathlib.Omega.{arith}
+use lib.Dec.{eqb, leb, ltb}
+use lib.ListN.{length, getD, drop}
+use borrow.Author.Tests.{eqb-true, eqb-false, ltb-true, ltb-false, ne-eqb}
+use Rattle.radix.specs.Digits.{ofBytes}
+use Rattle.radix.proofs.Laws.Places.{from}
+use Rattle.protocol.specs.Command.{Decoded as Meant, unknown, command, withBody, decode}
+use Rattle.protocol.specs.declared.Command.{Command}
+use Rattle.protocol.specs.declared.Command.the-variants.{ReaderStep}
+use Rattle.codec.specs.Decode.{asDecoded, decodeAt}
+use Rattle.codec.specs.declared.Decoded.{Decoded}
+use Rattle.codec.proofs.Decodes.{body, cut, whole, first-byte}
+use Rattle.page.specs.Loop.{stepperOf, stepperIn}
+
+-- NO STEP
+module _ (size none : ℕ) where
+  abbrev None : Meant → Type 0
+  None d = none ≡ stepperIn (asDecoded size d) none
+
+  either : (t : Bool) (a b : Meant) → None a → None b → None (cond t a b)
+  either true a b p q = p
+  either false a b p q = q
+
+  no-command : None unknown
+  unfolding asDecoded stepperIn
+  no-command = refl
+
+  another : (k : ℕ) (l : List ℕ) (x : Command) → none ≡ stepperOf x none → None (withBody k l x)
+  unfolding asDecoded stepperIn
+  another k l x e = either (leb k (length l)) (command x (drop k l)) unknown e no-command
+
+  other-kind : (kind : ℕ) (l : List ℕ) → (kind ≡ 6 → ⊥) → None (decode (kind ∷ l))
+  unfolding decode
+  other-kind kind l h =
+      rw (ne-eqb kind 6 h)
+      (either (eqb kind 1) _ _ (another 8 l _ refl)
+      (either (eqb kind 2) _ _ (another 2 l _ refl)
+      (either (eqb kind 3) _ _ (another 0 l _ refl)
+      (either (eqb kind 4) _ _ (another 1 l _ refl)
+      (either (eqb kind 5) _ _ (another 2 l _ refl)
+      (either (eqb kind 7) _ _ (another 1 l _ refl) no-command))))))
+
+module _ (s : List ℕ) (at none : ℕ) (h : at < length s) where
+  pub no-step : (getD s at 0 ≡ 6 → ⊥) → none ≡ stepperIn (decodeAt s at) none
+  no-step k = rw (from s at h) (other-kind (length s) none (getD s at 0) (body s at) k)
+
+  pub cut-step : getD s at 0 ≡ 6 → length s - at < 2 → none ≡ stepperIn (decodeAt s at) none
+  unfolding decode stepperIn
+  cut-step k few = rw (← cut s at h 1 (ReaderStep (getD (body s at) 0 0)) k refl (omega arith))
+
+  -- A STEP
+  there : getD s at 0 ≡ 6 → 2 ≤ length s - at → Decoded.Is (ReaderStep (getD s (at + 1) 0)) (at + 2) ≡ decodeAt s at
+  unfolding decode
+  there k many =
+      let next : at + 2 ≡ at + 1 + 1 = omega arith in
+      ap₂ (λ r k. Decoded.Is (ReaderStep r) k) (sym (first-byte s at)) next
+      ∙ whole s at h 1 (ReaderStep (getD (body s at) 0 0)) k refl (omega arith)
+
+  pub step-there : getD s at 0 ≡ 6 → 2 ≤ length s - at → getD s (at + 1) 0 ≡ stepperIn (decodeAt s at) none
+  unfolding stepperIn
+  step-there k many = rw (← there k many)
+
+  -- WHAT THE ANSWER SAYS
+  pub stepper-is : {i : ℕ} → i ≡ stepperIn (decodeAt s at) none → i < none → Decoded.Is (ReaderStep i) (at + 2) ≡ decodeAt s at
+  stepper-is {i} e below = go (eqb (getD s at 0) 6) (ltb (length s - at) 2) refl refl
+    where
+      go :
+          (a b : Bool) → eqb (getD s at 0) 6 ≡ a → ltb (length s - at) 2 ≡ b →
+          Decoded.Is (ReaderStep i) (at + 2) ≡ decodeAt s at
+      go false b p q = absurd (omega (arith, e, no-step (eqb-false (getD s at 0) 6 p)))
+      go true true p q =
+          absurd (omega (arith, e, cut-step (eqb-true (getD s at 0) 6 p) (ltb-true (length s - at) 2 q)))
+      go true false p q =
+          let k : getD s at 0 ≡ 6 = eqb-true (getD s at 0) 6 p in
+          let many : 2 ≤ length s - at = ltb-false (length s - at) 2 q in
+          ap (λ r. Decoded.Is (ReaderStep r) (at + 2)) (e ∙ sym (step-there k many)) ∙ there k many
