@@ -8,4 +8,5 @@ pub mod Taken
 pub mod Going
 pub mod Turns
 pub mod Rounds
+pub mod Steps
 pub mod Ends

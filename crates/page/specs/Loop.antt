@@ -2,7 +2,7 @@
 use mathlib.Core.Path.{_≡_}
 use mathlib.Core.List.{List, []}
 use mathlib.Core.Bool.{Bool, true, false, _&&_}
-use Prim.Native.Nat.{ℕ, _+_, _-_}
+use Prim.Native.Nat.{ℕ, _+_, _-_, _<_}
 use lib.Dec.{ltb}
 use lib.ListN.{length, set}
 use Rattle.protocol.specs.Form.{Form}
@@ -19,6 +19,7 @@ use Rattle.protocol.specs.declared.Command.the-variants.{
 }
 use Rattle.protocol.specs.declared.Ending.{Ending}
 use Rattle.protocol.specs.declared.Ending.the-variants.{Finished}
+use Rattle.protocol.specs.declared.Outcome.the-variants.{Nothing}
 use Rattle.protocol.specs.declared.Reader.{Reader}
 use Rattle.protocol.specs.declared.Refusal.{Refusal}
 use Rattle.protocol.specs.declared.Refusal.the-variants.{UnknownCommand}
@@ -34,7 +35,7 @@ use Rattle.page.specs.declared.turning.ReadTurn.{ReadTurn}
 use Rattle.page.specs.declared.turning.WriteTurn.{WriteTurn}
 use Rattle.page.specs.Reads.{whoseOf, readsAt, ReadReady}
 use Rattle.page.specs.Writes.{writes, NoReader}
-use Rattle.page.specs.Carry.{readerAt}
+use Rattle.page.specs.Carry.{readerAt, afterRead, carryAt}
 
 abbrev pub standing : Verdict → (taken done written : ℕ) → Standing
 standing v taken done written = record { verdict = v; taken = taken; done = done; written = written }
@@ -143,6 +144,12 @@ inPlace i rs y = placeTurn (y .standing) (set rs i (y .reader)) (y .buffers) (y 
 
 abbrev pub turnAt : Form → (page : List ℕ) → (i : ℕ) → List Reader → (buffers log : List ℕ) → Decoded → Standing → PlaceTurn
 turnAt F page i rs bs log d z = inPlace i rs (readTurn F page i (readerAt rs i) bs log d z)
+
+-- A STEP THAT ENDS NOTHING, of a reader in its place; or nothing is done
+abbrev pub Advanced : Form → (page : List ℕ) → (i : ℕ) → List Reader → (buffers : List ℕ) → Bool → List Reader → List ℕ → Type 0
+Advanced F page i rs bs true rs′ bs′ =
+    (i < length rs) × ((room : ℕ) → afterRead (Done Nothing) rs′ bs′ ≡ carryAt F page i room rs bs (ReaderStep i))
+Advanced F page i rs bs false rs′ bs′ = (rs′ ≡ rs) × (bs′ ≡ bs)
 
 -- of the writer
 pub record PenTurn : Type 0 where

@@ -5,13 +5,16 @@ ghost use Prim.Native.Nat.{_%_, _≤_, _<_};
 ghost use lib.Dec.{eqb};
 ghost use lib.ListN.{length};
 ghost use Rattle.protocol.specs.Form.{formOf};
+ghost use Rattle.protocol.specs.declared.Command.the-variants.{ReaderStep};
+ghost use Rattle.page.specs.Reads.{ReadReady};
 ghost use Rattle.page.specs.Carry.{lent, Ready, readerAt};
-ghost use Rattle.page.specs.Loop.{TurnReady, placeTurn, turnAt};
+ghost use Rattle.page.specs.Loop.{TurnReady, placeTurn, turnAt, Advanced};
 ghost use Rattle.page.specs.Calls.{ranLent, runLent, Carries, refusedRan};
 use crate::Ran;
 use crate::looping;
 use crate::looping::Standing;
 use crate::pen;
+use crate::reading;
 use crate::starting;
 use crate::turning;
 use codec::Decoded;
@@ -70,6 +73,40 @@ pub(crate) fn turn_at(
     t.standing
 }
 
+// A step of reader i that ends nothing: the readers' most frequent command. Or nothing is done.
+pub(crate) fn advance_at(
+    readers: &mut [Reader],
+    i: usize,
+    format: Format,
+    bases: &[u16],
+    page: &mut [u8],
+    buffers: &mut [u8],
+) -> bool
+    requires { ⌜ (i < length (now readers) → ReadReady (formOf (now bases) format) (now page) (readerAt (now readers) i)
+        (now buffers) i (ReaderStep i)) ⌝ }
+    ensures { λ r. ⌜ (now (page .exit) ≡ now (page .entry))
+        × Advanced (formOf (now (bases .entry)) format) (now (page .entry)) i (now (readers .entry))
+        (now (buffers .entry)) r (now (readers .exit)) (now (buffers .exit)) ⌝ }
+{
+    if readers.len() <= i {
+        return false;
+    }
+    let stage = readers[i].stage;
+    if !reading::advances(format, bases, stage) {
+        return false;
+    }
+    readers[i].stage.steps = reading::advance(
+        i,
+        stage,
+        &mut readers[i].digits,
+        format,
+        bases,
+        page,
+        buffers,
+    );
+    true
+}
+
 // The commands in order, up to the first that is refused.
 pub(crate) fn run_all(
     readers: &mut [Reader],
@@ -96,14 +133,20 @@ pub(crate) fn run_all(
     let mut s = looping::first();
     let mut p = pen::dry(writer);
     while looping::goes(s, k) {
-        let d = codec::decode(commands, s.taken);
-        let i = turning::whose(d, n);
-        if i < n {
-            s = turn_at(readers, i, format, bases, page, buffers, log, d, s);
+        let w = turning::stepper(commands, s.taken, n);
+        let moved = advance_at(readers, w, format, bases, page, buffers);
+        if moved {
+            s = looping::advanced(s);
         } else {
-            let t = turning::write_turn(format, bases, page, p, records, d, s);
-            s = t.standing;
-            p = t.pen;
+            let d = codec::decode(commands, s.taken);
+            let i = turning::whose(d, n);
+            if i < n {
+                s = turn_at(readers, i, format, bases, page, buffers, log, d, s);
+            } else {
+                let t = turning::write_turn(format, bases, page, p, records, d, s);
+                s = t.standing;
+                p = t.pen;
+            }
         }
     }
     looping::ran_of(s, p.writer)

@@ -1,7 +1,7 @@
 -- What a held reader is, by its kind.
 use mathlib.Core.Path.{_≡_, refl, sym, ap, subst, _∙_}
 use mathlib.Core.Bool.{true, false}
-use Prim.Native.Nat.{_-_}
+use Prim.Native.Nat.{_-_, _<_}
 use native.Mathlib.Omega.{arith}
 use lib.ListN.{length}
 use Rattle.protocol.specs.Form.{Form, m}
@@ -54,6 +54,16 @@ module _ (F : Form) (x : Reader) (held : Held F x) where
       go (ofRecord a f s ds) g =
           length-storedDigits (F .q) ds (length ds - F .q) (omega (arith, range .versions)) (omega (arith, g .1, g .2))
           refl
+
+  pub held-steps : x .stage .steps < 18446744073709551615
+  unfolding storedReading
+  held-steps = go (loadReading F x) (held .stored) good
+    where
+      go : (σ : Reading) → storedReading F σ ≡ x → GoodReading F σ → x .stage .steps < 18446744073709551615
+      go idle e g = omega (arith, ap (λ (y : Reader). y .stage .steps) e)
+      go (ofCount ds) e g = omega (arith, ap (λ (y : Reader). y .stage .steps) e, g .0, range .places)
+      go (ofRecord a f s ds) e g =
+          omega (arith, ap (λ (y : Reader). y .stage .steps) e, g .1, range .versions, range .bytes)
 
   pub at-count : x .stage .kind ≡ 1 → AtCount F x
   unfolding storedReading

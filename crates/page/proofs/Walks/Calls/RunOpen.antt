@@ -1,8 +1,10 @@
 -- What `run_all` is lent, open for its loop: the readers, page, buffers and log lie there. In a turn the commands are lent
--- to `decode`; then all four to `turn_at`, or the page to `write_turn`, with what each shares. As steps:
+-- to `stepper` and `decode`; all but the log to `advance_at`; then all four to `turn_at`, or the page to `write_turn`, with
+-- what each shares. As steps:
 --     opens-all        the tokens, the readers and the eight: become that all lie there; what is shared; what shuts them
 --     shuts-all        these: become the tokens, and the last values
 --     lends-script, script-back    the commands at their own lifetime, and back
+--     relends-advance, come-advance    what `advance_at` gets, and back
 --     relends-turn, come-turn      what `turn_at` gets, and back
 --     relends-write, come-write    what `write_turn` gets, and back
 use mathlib.Core.Path.{_≡_}
@@ -43,6 +45,7 @@ use Rattle.page.proofs.pen.Pen.Laws as TP′
 use Rattle.page.proofs.Walks.Rules.Flat.{_&_}
 use Rattle.page.proofs.Walks.Rules.Kept.{Own}
 use Rattle.page.proofs.Walks.Rules.Whole.{Lie, Shut, anew, Keep, opens, shuts, relends, comes}
+use Rattle.page.proofs.Walks.Rules.Tokens.{binds, unbinds}
 use Rattle.page.proofs.Walks.Calls.TurnRest as turn
 use Rattle.page.proofs.Walks.Calls.WriteTurn as write
 use Rattle.page.proofs.Walks.Calls.RunRest.{Lent, Lasts, page, buffers, records, commands, log, AsLong, Rest, Last}
@@ -53,6 +56,13 @@ R = T.the-row
 -- four of X: of the readers, page, buffers and log
 abbrev Four : Type 0 → Type 0
 Four X = X × (X × (X × X))
+
+-- all but the log
+abbrev Three : Type 0 → Type 0
+Three X = X × (X × X)
+
+abbrev three : {X : Type 0} → Four X → Three X
+three x = (x .0, (x .1 .0, x .1 .1 .0))
 
 -- a `&` to a slice
 abbrev Shr : (Q : RattleType) → Lft → RefT (List (Q .Denot)) → Fml
@@ -227,19 +237,39 @@ module _ (κs : Lfts 6) (qs : Shares 6) (x : RefT (List Reader)) (a : Lent) wher
       a .0 & a .1 .0 & anew u8 (page a) (δs .1 .0) (c .0) & anew u8 (buffers a) (δs .1 .1 .0) (c .1 .0) &
       anew u8 (log a) (δs .1 .1 .1) (c .1 .1) & d & s & tt
 
-  abbrev pub Keeps : Four ℕ → Four GName → List Reader → Lasts → Fml
-  Keeps αs δs ys c =
+  abbrev Keeps₃ : Three ℕ → Three GName → List Reader → Lasts → Fml
+  Keeps₃ αs δs ys c =
       fsep (Keep R x (αs .0) (δs .0) ys)
       (fsep (Keep u8 (page a) (αs .1 .0) (δs .1 .0) (c .0))
-      (fsep (Keep u8 (buffers a) (αs .1 .1 .0) (δs .1 .1 .0) (c .1 .0))
-      (fsep (Keep u8 (log a) (αs .1 .1 .1) (δs .1 .1 .1) (c .1 .1))
-      (fsep (Slices κs qs a) (fsep (tr κs qs a) (tc κs qs a))))))
+      (fsep (Keep u8 (buffers a) (αs .1 .1) (δs .1 .1) (c .1 .0))
+      (fsep (Slices κs qs a) (fsep (tr κs qs a) (tc κs qs a)))))
+
+  abbrev pub Keeps : Four ℕ → Four GName → List Reader → Lasts → Fml
+  Keeps αs δs ys c = fsep (Keep u8 (log a) (αs .1 .1 .1) (δs .1 .1 .1) (c .1 .1)) (Keeps₃ (three αs) (three δs) ys c)
 
   abbrev pub Gets : {M : Type 1} (𝓤 : URA M) (H : Heap 𝓤) (A : Atoms 𝓤) → Four ℕ → Four GName → Decoded → Standing →
       List Reader → Lasts → Item 𝓤
   Gets 𝓤 H A αs δs d s ys c =
       ‵ (flft (αs .0 ∷ []) fullShare) ⊛ (raw (toks 𝓤 A 4 (turn-κs αs) turn-qs) ⊛
       (‵ (Own R (αs .0 ∷ []) (anew R x (δs .0) ys)) ⊛ ‵ (turn.Rest (turning δs d s c) (turn-κs αs))))
+
+  -- the loan to `advance_at`
+  abbrev pub advance-κs : Three ℕ → Lfts 4
+  advance-κs αs = (αs .0 ∷ [], (κs .0, (αs .1 .0 ∷ [], (αs .1 .1 ∷ [], tt))))
+
+  abbrev pub advance-qs : Shares 4
+  advance-qs = (fullShare, (qs .0, (fullShare, (fullShare, tt))))
+
+  abbrev pub KeepsLog : Three ℕ → Three GName → List Reader → Lasts → Fml
+  KeepsLog αs δs ys c = fsep (Lie u8 (log a) (c .1 .1)) (Keeps₃ αs δs ys c)
+
+  abbrev pub GetsThree : {M : Type 1} (𝓤 : URA M) (H : Heap 𝓤) (A : Atoms 𝓤) → Three ℕ → Three GName → List Reader →
+      Lasts → Item 𝓤
+  GetsThree 𝓤 H A αs δs ys c =
+      raw (toks 𝓤 A 4 (advance-κs αs) advance-qs) ⊛ ‵ (fsep (Own R (αs .0 ∷ []) (anew R x (δs .0) ys))
+      (fsep (Bases κs qs a)
+      (fsep (Own u8 (αs .1 .0 ∷ []) (anew u8 (page a) (δs .1 .0) (c .0)))
+      (fsep (Own u8 (αs .1 .1 ∷ []) (anew u8 (buffers a) (δs .1 .1) (c .1 .0))) ftrue))))
 
   -- the loan to `write_turn`
   abbrev pub write-κs : ℕ → Lfts 3
@@ -312,6 +342,66 @@ module _ (κs : Lfts 6) (qs : Shares 6) (x : RefT (List Reader)) (a : Lent) wher
         -- [bases' token; records'; the slices; commands']
         move t (0 ∷ 1 ∷ 3 ∷ []) $ fjoin3 t $ move t (1 ∷ 0 ∷ []) $ fjoin t $ s)
 
+    -- the readers, page and buffers, beside the bases
+    relends-three : (ys : List Reader) (c : Lasts) → Room R (length ys) → Room u8 (length (c .0)) →
+        Room u8 (length (c .1 .0))
+        → ((αs : Three ℕ) (δs : Three GName) → Seq K W (‵ (Keeps₃ αs δs ys c) ∷ ‵ (t0 κs qs a) ∷ ‵ (Bases κs qs a) ∷
+        ‵ (flft (αs .1 .1 ∷ []) fullShare) ∷ ‵ (Own u8 (αs .1 .1 ∷ []) (anew u8 (buffers a) (δs .1 .1) (c .1 .0))) ∷
+        ‵ (flft (αs .1 .0 ∷ []) fullShare) ∷ ‵ (Own u8 (αs .1 .0 ∷ []) (anew u8 (page a) (δs .1 .0) (c .0))) ∷
+        ‵ (flft (αs .0 ∷ []) fullShare) ∷ ‵ (Own R (αs .0 ∷ []) (anew R x (δs .0) ys)) ∷
+        ‵ (Lie u8 (log a) (c .1 .1)) ∷ Γ) G)
+        → Seq K W (‵ (Lies ys c) ∷ ‵ (Shared κs qs a) ∷ Γ) G
+    relends-three ys c rr rp rb k =
+        fsplit t $ move t (1 ∷ []) $ fsplit t $ move t (1 ∷ []) $ fsplit t $
+        -- [buffers; log; page; the readers; what is shared]
+        move t (3 ∷ []) $ relends R x t z ys rr (λ α δ. move t (5 ∷ []) $
+        relends u8 (page a) t z (c .0) rp (λ αp δp. move t (6 ∷ []) $
+        relends u8 (buffers a) t z (c .1 .0) rb (λ αb δb. move t (10 ∷ []) $ fsplit t $
+        use1 W (‵ (Bases κs qs a) ⊛ ‵ (Slices κs qs a)) (for-turn κs qs a 𝓤 H A W) $ split t $ move t (2 ∷ []) $
+        fsplit t $
+        -- [bases' token; the others; bases; the slices; of buffers, page, readers: its token, the loan, what is kept; log]
+        move t (3 ∷ 1 ∷ []) $ fjoin t $ move t (5 ∷ 0 ∷ []) $ fjoin t $ move t (7 ∷ 0 ∷ []) $ fjoin t $
+        move t (9 ∷ 0 ∷ []) $ fjoin t $ k (α, (αp, αb)) (δ, (δp, δb)))))
+
+    come-three : (αs : Three ℕ) (δs : Three GName) (ys zs : List Reader) (c e : Lasts)
+        → Step K W (‵ (Lies zs e) ∷ ‵ (Shared κs qs a) ∷ Γ) G
+        (‵ (Lie u8 (log a) (e .1 .1)) ∷ ‵ (Keeps₃ αs δs ys c) ∷ ‵ (finally u8 (δs .1 .0) (e .0)) ∷
+        ‵ (finally u8 (δs .1 .1) (e .1 .0)) ∷ ‵ (t0 κs qs a) ∷ ‵ (flft (αs .1 .1 ∷ []) fullShare) ∷
+        ‵ (flft (αs .1 .0 ∷ []) fullShare) ∷ ‵ (flft (αs .0 ∷ []) fullShare) ∷ ‵ (finally R (δs .0) zs) ∷ Γ) G
+    come-three αs δs ys zs c e =
+        step (λ s. move t (1 ∷ []) $ fsplit t $
+        -- [what is kept of the readers; of the others; log; the last page, buffers; the tokens of bases, buffers, page,
+        -- readers; the last readers]
+        move t (8 ∷ 9 ∷ 0 ∷ []) $ comes R x t z (αs .0) (δs .0) ys zs $ move t (1 ∷ []) $ fsplit t $
+        move t (8 ∷ 4 ∷ 0 ∷ []) $ comes u8 (page a) t z (αs .1 .0) (δs .1 .0) (c .0) (e .0) $ move t (1 ∷ []) $
+        fsplit t $ move t (7 ∷ 5 ∷ 0 ∷ []) $
+        comes u8 (buffers a) t z (αs .1 .1) (δs .1 .1) (c .1 .0) (e .1 .0) $ move t (1 ∷ []) $ fsplit t $
+        -- [the slices; the other tokens; buffers; page; the readers; log; bases' token]
+        move t (6 ∷ 1 ∷ []) $ fjoin t $ move t (1 ∷ 0 ∷ []) $ fjoin t $
+        -- [what is shared; buffers; page; the readers; log]
+        move t (1 ∷ 4 ∷ []) $ fjoin t $ move t (2 ∷ 0 ∷ []) $ fjoin t $ move t (2 ∷ 0 ∷ []) $ fjoin t $ s)
+
+    pub relends-advance : (ys : List Reader) (c : Lasts) → Room R (length ys) → Room u8 (length (c .0)) →
+        Room u8 (length (c .1 .0))
+        → ((αs : Three ℕ) (δs : Three GName) → Seq K W (GetsThree 𝓤 H A αs δs ys c ∷ ‵ (KeepsLog αs δs ys c) ∷ Γ) G)
+        → Seq K W (‵ (Lies ys c) ∷ ‵ (Shared κs qs a) ∷ Γ) G
+    relends-advance ys c rr rp rb k =
+        relends-three ys c rr rp rb (λ αs δs. move t (9 ∷ 0 ∷ []) $ fjoin t $ nothing t $
+        -- [none; what is kept; bases' token; bases; of buffers, page, readers: its token, the loan]
+        move t (5 ∷ 0 ∷ []) $ fjoin t $ move t (6 ∷ 0 ∷ []) $ fjoin t $ move t (3 ∷ 0 ∷ []) $ fjoin t $
+        move t (6 ∷ 0 ∷ []) $ fjoin t $
+        -- [the loans; what is kept; the tokens of bases, buffers, page, readers]
+        move t (5 ∷ 2 ∷ 4 ∷ 3 ∷ []) $ binds t 4 (advance-κs αs) advance-qs $ join t $ k αs δs)
+
+    pub come-advance : (αs : Three ℕ) (δs : Three GName) (ys zs : List Reader) (c : Lasts) (p b : List ℕ)
+        → Step K W (‵ (Lies zs (p & b & c .1 .1)) ∷ ‵ (Shared κs qs a) ∷ Γ) G
+        (raw (toks 𝓤 A 4 (advance-κs αs) advance-qs) ∷ ‵ (finally R (δs .0) zs) ∷ ‵ (finally u8 (δs .1 .0) p) ∷
+        ‵ (finally u8 (δs .1 .1) b) ∷ ‵ (KeepsLog αs δs ys c) ∷ Γ) G
+    come-advance αs δs ys zs c p b =
+        step (λ s. unbinds t 4 (advance-κs αs) advance-qs $ move t (7 ∷ []) $ fsplit t $
+        -- [log; what is kept; the tokens of readers, bases, page, buffers; the last readers, page, buffers]
+        move t (0 ∷ 1 ∷ 7 ∷ 8 ∷ 3 ∷ 5 ∷ 4 ∷ 2 ∷ 6 ∷ []) $ come-three αs δs ys zs c (p & b & c .1 .1) $ s)
+
     pub relends-turn : (d : Decoded) (st : Standing) (ys : List Reader) (c : Lasts) → Room R (length ys) →
         Room u8 (length (c .0)) → Room u8 (length (c .1 .0)) → Room u8 (length (c .1 .1)) →
         Is TF.the-row (a .0) (LL.vals TF.the-type TF′.the-laws (a .0)) →
@@ -319,27 +409,20 @@ module _ (κs : Lfts 6) (qs : Shares 6) (x : RefT (List Reader)) (a : Lent) wher
         → ((αs : Four ℕ) (δs : Four GName) → Seq K W (Gets 𝓤 H A αs δs d st ys c ∷ ‵ (Keeps αs δs ys c) ∷ Γ) G)
         → Seq K W (‵ (Lies ys c) ∷ ‵ (Shared κs qs a) ∷ Γ) G
     relends-turn d st ys c rr rp rb rl f-is d-is st-is k =
-        fsplit t $ move t (1 ∷ []) $ fsplit t $ move t (1 ∷ []) $ fsplit t $
-        -- [buffers; log; page; the readers; what is shared]
-        move t (3 ∷ []) $ relends R x t z ys rr (λ α δ. move t (5 ∷ []) $
-        relends u8 (page a) t z (c .0) rp (λ αp δp. move t (6 ∷ []) $
-        relends u8 (buffers a) t z (c .1 .0) rb (λ αb δb. move t (9 ∷ []) $
-        relends u8 (log a) t z (c .1 .1) rl (λ αl δl. move t (12 ∷ []) $ fsplit t $
-        use1 W (‵ (Bases κs qs a) ⊛ ‵ (Slices κs qs a)) (for-turn κs qs a 𝓤 H A W) $ split t $ move t (2 ∷ []) $
-        fsplit t $
-        -- [bases' token; the others; bases; the slices; of log, buffers, page, readers: its token, the loan, what is kept]
-        move t (3 ∷ 1 ∷ []) $ fjoin t $ move t (5 ∷ 0 ∷ []) $ fjoin t $ move t (7 ∷ 0 ∷ []) $ fjoin t $
-        move t (9 ∷ 0 ∷ []) $ fjoin t $ move t (11 ∷ 0 ∷ []) $ fjoin t $
+        relends-three ys c rr rp rb (λ αs δs. move t (9 ∷ []) $
+        relends u8 (log a) t z (c .1 .1) rl (λ αl δl. move t (2 ∷ 3 ∷ []) $ fjoin t $ move t (0 ∷ 3 ∷ 4 ∷ []) $
         -- [what is kept; bases' token; bases; of log, buffers, page, readers: its token, the loan]
-        let κs′ : Lfts 4 = turn-κs (α, (αp, (αb, αl))) in
-        let a′ : turn.Lent = turning (δ, (δp, (δb, δl))) d st c in
+        let αs′ : Four ℕ = (αs .0, (αs .1 .0, (αs .1 .1, αl))) in
+        let δs′ : Four GName = (δs .0, (δs .1 .0, (δs .1 .1, δl))) in
+        let κs′ : Lfts 4 = turn-κs αs′ in
+        let a′ : turn.Lent = turning δs′ d st c in
         move t (4 ∷ 2 ∷ []) $ fjoin t $ move t (7 ∷ 5 ∷ 0 ∷ []) $
         use3 W (‵ (turn.Rest a′ κs′)) (turn.whole a′ 𝓤 H A W κs′ f-is d-is st-is) $
         -- [the seven; what is kept; bases' token; log's; buffers'; page's; the readers'; their loan]
         move t (3 ∷ 2 ∷ []) $ fjoin t $ move t (4 ∷ 3 ∷ 0 ∷ []) $
-        use3 W (raw (toks 𝓤 A 4 κs′ turn-qs)) (turn-together κs qs a 𝓤 H A W αp αb αl) $
+        use3 W (raw (toks 𝓤 A 4 κs′ turn-qs)) (turn-together κs qs a 𝓤 H A W (αs .1 .0) (αs .1 .1) αl) $
         -- [the tokens; the seven; what is kept; the readers' token; their loan]
-        move t (3 ∷ 0 ∷ 4 ∷ 1 ∷ []) $ group t 4 $ k (α, (αp, (αb, αl))) (δ, (δp, (δb, δl)))))))
+        move t (3 ∷ 0 ∷ 4 ∷ 1 ∷ []) $ group t 4 $ k αs′ δs′))
 
     pub come-turn : (αs : Four ℕ) (δs : Four GName) (d : Decoded) (st : Standing) (ys zs : List Reader) (c e : Lasts)
         → Step K W (‵ (Lies zs e) ∷ ‵ (Shared κs qs a) ∷ Γ) G
@@ -350,21 +433,11 @@ module _ (κs : Lfts 6) (qs : Shares 6) (x : RefT (List Reader)) (a : Lent) wher
         use1 W (‵ (flft (αs .1 .0 ∷ []) fullShare) ⊛ (‵ (flft (αs .1 .1 .0 ∷ []) fullShare) ⊛
         (‵ (flft (αs .1 .1 .1 ∷ []) fullShare) ⊛ ‵ (t0 κs qs a))))
         (turn-apart κs qs a 𝓤 H A W (αs .1 .0) (αs .1 .1 .0) (αs .1 .1 .1)) $ split t $ move t (1 ∷ []) $ split t $
-        move t (1 ∷ []) $ split t $ move t (7 ∷ []) $ fsplit t $
-        -- [what is kept of the readers; of the others; the tokens of log, bases, buffers, page, readers; the last readers;
-        -- the last others]
-        move t (6 ∷ 7 ∷ 0 ∷ []) $ comes R x t z (αs .0) (δs .0) ys zs $ move t (6 ∷ []) $ fsplit3 t $
-        move t (4 ∷ []) $ fsplit t $
-        -- [what is kept of page; of the others; the last page, buffers, log; the readers; the tokens of log, bases, buffers,
-        -- page]
-        move t (9 ∷ 2 ∷ 0 ∷ []) $ comes u8 (page a) t z (αs .1 .0) (δs .1 .0) (c .0) (e .0) $ move t (1 ∷ []) $
-        fsplit t $ move t (8 ∷ 3 ∷ 0 ∷ []) $
-        comes u8 (buffers a) t z (αs .1 .1 .0) (δs .1 .1 .0) (c .1 .0) (e .1 .0) $ move t (1 ∷ []) $ fsplit t $
-        move t (6 ∷ 4 ∷ 0 ∷ []) $ comes u8 (log a) t z (αs .1 .1 .1) (δs .1 .1 .1) (c .1 .1) (e .1 .1) $
-        -- [log; what is shared; buffers; page; the readers; bases' token]
-        move t (1 ∷ []) $ fsplit t $ move t (6 ∷ 1 ∷ []) $ fjoin t $ move t (1 ∷ 0 ∷ []) $ fjoin t $
-        -- [what is shared; log; buffers; page; the readers]
-        move t (2 ∷ 1 ∷ []) $ fjoin t $ move t (2 ∷ 0 ∷ []) $ fjoin t $ move t (2 ∷ 0 ∷ []) $ fjoin t $ s)
+        move t (1 ∷ []) $ split t $ move t (6 ∷ []) $ fsplit3 t $ move t (9 ∷ []) $ fsplit t $
+        -- [what is kept of log; of the others; the last page, buffers, log; the tokens of log, bases, buffers, page,
+        -- readers; the last readers]
+        move t (5 ∷ 4 ∷ 0 ∷ []) $ comes u8 (log a) t z (αs .1 .1 .1) (δs .1 .1 .1) (c .1 .1) (e .1 .1) $
+        come-three (three αs) (three δs) ys zs c e $ s)
 
     pub relends-write : (p : Pen) (d : Decoded) (st : Standing) (ys : List Reader) (c : Lasts) → Room u8 (length (c .0)) →
         Is TF.the-row (a .0) (LL.vals TF.the-type TF′.the-laws (a .0)) →
