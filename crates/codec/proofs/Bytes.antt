@@ -10,8 +10,8 @@ use lib.Seq.{length-take-le, getD-take, getD-drop, take-take, take-nil, drop-dro
 use borrow.Author.Tests.{le-leb, lt-ltb}
 use Rattle.radix.specs.Digits.{product, value, valid, ofBytes}
 use Rattle.radix.specs.Answers.{all, goodBase, goodBases}
-use Rattle.radix.proofs.Laws.Products.{rest-pos}
-use Rattle.radix.proofs.Laws.Turns.{horner-on}
+use Rattle.radix.proofs.Numbers.Products.{rest-pos}
+use Rattle.radix.proofs.Numbers.Turns.{horner-on}
 use Rattle.radix.proofs.Theorems.RoundTrip.{valid-sound, value-lt, product-replicate}
 use Rattle.protocol.proofs.Lists.Cases.{together}
 

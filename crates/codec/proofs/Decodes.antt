@@ -7,7 +7,7 @@ use native.Mathlib.Omega.{arith}
 use lib.ListN.{length, getD, drop, length-drop, drop-of-length-le}
 use lib.Seq.{getD-drop}
 use borrow.Author.Tests.{le-leb, lt-leb, ne-eqb}
-use Rattle.radix.proofs.Laws.Places.{from}
+use Rattle.radix.proofs.Numbers.Places.{from}
 use Rattle.protocol.specs.Command.{withBody, decode}
 use Rattle.protocol.specs.declared.Command.{Command}
 use Rattle.codec.specs.Decode.{asDecoded, decodeAt}

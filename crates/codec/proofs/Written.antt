@@ -7,8 +7,8 @@ use native.Mathlib.Nat.{add-zero}
 use lib.ListN.{length, getD, set, drop, getD-replicate}
 use lib.Seq.{drop-length}
 use Rattle.radix.specs.Digits.{product, digits, bytes}
-use Rattle.radix.proofs.Laws.Places.{from-left}
-use Rattle.radix.proofs.Laws.Turns.{left-on}
+use Rattle.radix.proofs.Numbers.Places.{from-left}
+use Rattle.radix.proofs.Numbers.Turns.{left-on}
 use Rattle.codec.specs.Entry.{overlay}
 use Rattle.codec.proofs.Bytes.{byteBases, length-bases}
 use Rattle.codec.proofs.Overlays.{overlay-none, overlay-last}

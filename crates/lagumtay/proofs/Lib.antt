@@ -1,3 +1,3 @@
--- Proofs of lagumtay: Laws are of what a call answers and leaves, Walks is what the proofs by hand share.
-pub mod Laws
+-- Proofs of lagumtay: Answers is what a call answers and leaves, Walks is what the proofs by hand share.
+pub mod Answers
 pub mod Walks

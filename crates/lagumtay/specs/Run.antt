@@ -8,7 +8,7 @@ use Rattle.protocol.specs.Run.{run, logAfter}
 use Rattle.page.specs.Calls.{ranOf}
 use Rattle.page.specs.declared.Ran.{Ran}
 use Rattle.lagumtay.specs.declared.running.Answer.{Answer}
-use Rattle.lagumtay.specs.declared.running.Told.{Told}
+use Rattle.lagumtay.specs.declared.running.Returned.{Returned}
 
 pub record RanLeft : Type 0 where
   pub refusal : ℕ
@@ -22,8 +22,8 @@ ranLeft r a L log = record { refusal = r; answer = a; memory = L; log = log }
 abbrev pub answerOf : Ran → Answer
 answerOf r = record { done = r .done; written = r .written; taken = r .taken }
 
-unfoldable pub toldOf : Ran → Told
-toldOf r = record { refusal = endingNumber (r .ending); answer = answerOf r; writer = r .writer }
+unfoldable pub returnedOf : Ran → Returned
+returnedOf r = record { refusal = endingNumber (r .ending); answer = answerOf r; writer = r .writer }
 
 unfoldable pub runCall : Form → (records : List ℕ) → Memory → (commands log : List ℕ) → RanLeft
 runCall F S L s log =

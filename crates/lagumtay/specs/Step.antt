@@ -29,7 +29,7 @@ use Rattle.page.specs.declared.Stepped.{Stepped}
 use Rattle.page.specs.Carry.{After}
 use Rattle.page.specs.Calls.{startLent, stepLent}
 use Rattle.lagumtay.specs.declared.stepping.Order.{Order}
-use Rattle.lagumtay.specs.declared.stepping.Told.{Told}
+use Rattle.lagumtay.specs.declared.stepping.Entry.{Entry}
 use Rattle.lagumtay.specs.declared.stepping.Ended.{Ended}
 
 -- one of document 01's seven kinds
@@ -46,14 +46,14 @@ commandOf o =
     (cond (eqb (o .kind) 6) (ReaderStep (o .reader))
     (cond (eqb (o .kind) 7) (Cancel (o .reader)) (ReaderStep 255)))))))
 
-abbrev pub tell : (kind reader attempts : ℕ) → Version → Count → Told
-tell k r a v c = record { kind = k; reader = r; attempts = a; version = v; count = c }
+abbrev pub entryWith : (kind reader attempts : ℕ) → Version → Count → Entry
+entryWith k r a v c = record { kind = k; reader = r; attempts = a; version = v; count = c }
 
-unfoldable pub toldOf : Outcome → Told
-toldOf Nothing = tell 0 0 0 (record { 0 = 0 }) (record { 0 = 0 })
-toldOf (Shown r c) = tell 1 r 0 (record { 0 = 0 }) c
-toldOf (Accepted r k v) = tell 2 r k v (record { 0 = 0 })
-toldOf (GaveUp r k) = tell 3 r k (record { 0 = 0 }) (record { 0 = 0 })
+unfoldable pub entryOf : Outcome → Entry
+entryOf Nothing = entryWith 0 0 0 (record { 0 = 0 }) (record { 0 = 0 })
+entryOf (Shown r c) = entryWith 1 r 0 (record { 0 = 0 }) c
+entryOf (Accepted r k v) = entryWith 2 r k v (record { 0 = 0 })
+entryOf (GaveUp r k) = entryWith 3 r k (record { 0 = 0 }) (record { 0 = 0 })
 
 -- as the code has it: of an unknown kind, that there is no such reader means that the command is unknown
 unfoldable pub numberOf : Order → Refusal → ℕ
@@ -61,8 +61,8 @@ numberOf o why =
     cond (known o) (refusalNumber why) (cond (eqb (refusalNumber why) 8) 11 (refusalNumber why))
 
 unfoldable pub endOf : Order → Stepped → Answer → Ended
-endOf o s (WasDone x) = record { refusal = 0; told = toldOf x; writer = s .writer }
-endOf o s (WasRefused why) = record { refusal = numberOf o why; told = toldOf Nothing; writer = s .writer }
+endOf o s (WasDone x) = record { refusal = 0; outcome = entryOf x; writer = s .writer }
+endOf o s (WasRefused why) = record { refusal = numberOf o why; outcome = entryOf Nothing; writer = s .writer }
 
 abbrev pub endedOf : Order → Stepped → Ended
 endedOf o s = endOf o s (s .answer)
@@ -70,20 +70,20 @@ endedOf o s = endOf o s (s .answer)
 -- A STEP
 pub record SteppedLeft : Type 0 where
   pub refusal : ℕ
-  pub told : Told
+  pub outcome : Entry
   pub memory : Memory
 
-abbrev pub steppedLeft : ℕ → Told → Memory → SteppedLeft
-steppedLeft r t L = record { refusal = r; told = t; memory = L }
+abbrev pub steppedLeft : ℕ → Entry → Memory → SteppedLeft
+steppedLeft r t L = record { refusal = r; outcome = t; memory = L }
 
 unfoldable pub answeredLeft : Memory → Answer → SteppedLeft
-answeredLeft L (WasDone x) = steppedLeft 0 (toldOf x) L
-answeredLeft L (WasRefused why) = steppedLeft (refusalNumber why) (toldOf Nothing) L
+answeredLeft L (WasDone x) = steppedLeft 0 (entryOf x) L
+answeredLeft L (WasRefused why) = steppedLeft (refusalNumber why) (entryOf Nothing) L
 
 -- an unknown kind is refusal 11, after 1 to 3
 unfoldable pub unknownLeft : Memory → Ending → SteppedLeft
-unknownLeft L Finished = steppedLeft 11 (toldOf Nothing) L
-unknownLeft L (Refused why) = steppedLeft (refusalNumber why) (toldOf Nothing) L
+unknownLeft L Finished = steppedLeft 11 (entryOf Nothing) L
+unknownLeft L (Refused why) = steppedLeft (refusalNumber why) (entryOf Nothing) L
 
 unfoldable pub stepCall : Form → (records : List ℕ) → Memory → Order → SteppedLeft
 stepCall F S L o =

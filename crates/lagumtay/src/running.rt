@@ -3,7 +3,7 @@ ghost use mathlib.Core.Path.{_≡_};
 ghost use Rattle.protocol.specs.Form.{formOf};
 ghost use Rattle.page.specs.Carry.{lent};
 ghost use Rattle.page.specs.Calls.{Carries};
-ghost use Rattle.lagumtay.specs.Run.{ranLeft, runCall, toldOf};
+ghost use Rattle.lagumtay.specs.Run.{ranLeft, runCall, returnedOf};
 use page::Ran;
 use protocol::Format;
 use protocol::Reader;
@@ -18,14 +18,14 @@ pub struct Answer {
 }
 
 // What a run answers, in the types that leave the library.
-pub(crate) struct Told {
+pub(crate) struct Returned {
     pub(crate) refusal: u8,
     pub(crate) answer: Answer,
     pub(crate) writer: Writer,
 }
 
-fn tell(r: Ran) -> Told
-    ensures { λ t. ⌜ t ≡ toldOf r ⌝ }
+fn returned(r: Ran) -> Returned
+    ensures { λ t. ⌜ t ≡ returnedOf r ⌝ }
 {
     let e = r.ending;
     let refusal = protocol::ending_number(e);
@@ -35,7 +35,7 @@ fn tell(r: Ran) -> Told
         taken: r.taken,
     };
     let writer = r.writer;
-    Told {
+    Returned {
         refusal: refusal,
         answer: answer,
         writer: writer,
@@ -69,7 +69,7 @@ pub extern "C" fn lagumtay_run(
     let f = *format;
     let w = *writer;
     let r = page::run(readers, f, bases, page, w, buffers, records, commands, log);
-    let t = tell(r);
+    let t = returned(r);
     *writer = t.writer;
     *answer = t.answer;
     t.refusal

@@ -7,7 +7,7 @@ ghost use lib.ListN.{length};
 ghost use Rattle.protocol.specs.Form.{formOf};
 ghost use Rattle.page.specs.Carry.{lent};
 ghost use Rattle.page.specs.Calls.{CarriesStep};
-ghost use Rattle.lagumtay.specs.Step.{known as isKnown, commandOf, toldOf, numberOf, endedOf, steppedLeft, stepCall};
+ghost use Rattle.lagumtay.specs.Step.{known as isKnown, commandOf, entryOf, numberOf, endedOf, steppedLeft, stepCall};
 use page::Answer;
 use page::Stepped;
 use protocol::Command;
@@ -31,7 +31,7 @@ pub struct Order {
 
 // How it ended, by the kinds of the log's entries; 0 if there is none. A number that its kind does not have is 0.
 #[repr(C)]
-pub struct Told {
+pub struct Entry {
     pub kind: u8,
     pub reader: u8,
     pub attempts: u8,
@@ -42,7 +42,7 @@ pub struct Told {
 // What a step answers, in the types that leave the library.
 pub(crate) struct Ended {
     pub(crate) refusal: u8,
-    pub(crate) told: Told,
+    pub(crate) outcome: Entry,
     pub(crate) writer: Writer,
 }
 
@@ -72,18 +72,18 @@ fn command_of(o: Order) -> Command
     }
 }
 
-fn told_of(o: Outcome) -> Told
-    ensures { λ r. ⌜ r ≡ toldOf o ⌝ }
+fn entry_of(o: Outcome) -> Entry
+    ensures { λ r. ⌜ r ≡ entryOf o ⌝ }
 {
     match o {
-        Outcome::Nothing => Told {
+        Outcome::Nothing => Entry {
             kind: 0,
             reader: 0,
             attempts: 0,
             version: Version(0),
             count: Count(0),
         },
-        Outcome::Shown { reader, count } => Told {
+        Outcome::Shown { reader, count } => Entry {
             kind: 1,
             reader: reader,
             attempts: 0,
@@ -94,14 +94,14 @@ fn told_of(o: Outcome) -> Told
             reader,
             attempts,
             version,
-        } => Told {
+        } => Entry {
             kind: 2,
             reader: reader,
             attempts: attempts,
             version: version,
             count: Count(0),
         },
-        Outcome::GaveUp { reader, attempts } => Told {
+        Outcome::GaveUp { reader, attempts } => Entry {
             kind: 3,
             reader: reader,
             attempts: attempts,
@@ -133,12 +133,12 @@ fn end(o: Order, s: Stepped) -> Ended
     match a {
         Answer::Done(x) => Ended {
             refusal: 0,
-            told: told_of(x),
+            outcome: entry_of(x),
             writer: w,
         },
         Answer::Refused(why) => Ended {
             refusal: number(o, why),
-            told: told_of(Outcome::Nothing),
+            outcome: entry_of(Outcome::Nothing),
             writer: w,
         },
     }
@@ -155,7 +155,7 @@ pub extern "C" fn lagumtay_step(
     buffers: &mut [u8],
     records: &[u8],
     order: &Order,
-    outcome: &mut Told,
+    outcome: &mut Entry,
 ) -> u8
     ensures { λ r. ⌜ steppedLeft r (now (outcome .exit))
         (lent (now (page .exit)) (now (writer .exit)) (now (readers .exit)) (now (buffers .exit)))
@@ -174,6 +174,6 @@ pub extern "C" fn lagumtay_step(
     let s = page::step(readers, f, bases, page, w, buffers, records, x);
     let e = end(o, s);
     *writer = e.writer;
-    *outcome = e.told;
+    *outcome = e.outcome;
     e.refusal
 }

@@ -1,3 +1,3 @@
 pub mod Walks
-pub mod Laws
+pub mod Packings
 pub mod Kept

@@ -36,5 +36,5 @@ pub fn step(
         &bytes,
         &mut log,
     );
-    page::told(r, log)
+    page::step_of_run(r, log)
 }

@@ -8,7 +8,7 @@ use lib.ListN.{length, take, drop, replicate}
 use Rattle.radix.specs.declared.Count.{Count}
 use Rattle.protocol.specs.Lists.{concat}
 use Rattle.protocol.specs.Form.{Form, goodForm}
-use Rattle.protocol.specs.Command.{Decoded as Meant, over, unknown, command, decode}
+use Rattle.protocol.specs.Command.{Decoded as ProtocolDecoded, over, unknown, command, decode}
 use Rattle.protocol.specs.Step.{carry}
 use Rattle.protocol.specs.Memory.{Memory, goodLengths}
 use Rattle.protocol.specs.Load.{validMemory}
@@ -41,7 +41,7 @@ abbrev pub ranLent : Ran → Memory → List ℕ → RanLent
 ranLent r L log = record { ran = r; memory = L; log = log }
 
 -- how many bytes the first k commands take
-unfoldable pub bytesFrom : (List ℕ → ℕ) → List ℕ → Meant → ℕ
+unfoldable pub bytesFrom : (List ℕ → ℕ) → List ℕ → ProtocolDecoded → ℕ
 bytesFrom next s over = 0
 bytesFrom next s unknown = 0
 bytesFrom next s (command x rest) = length s - length rest + next rest

@@ -7,7 +7,7 @@ use lib.Dec.{ltb}
 use lib.ListN.{length, getD, set}
 use Rattle.protocol.specs.Form.{Form, goodForm}
 use Rattle.protocol.specs.Outcome.{entry}
-use Rattle.protocol.specs.Step.{Answer as Meant, refused, done, carry}
+use Rattle.protocol.specs.Step.{Answer as ProtocolAnswer, refused, done, carry}
 use Rattle.protocol.specs.Memory.{Memory, stored, goodLengths}
 use Rattle.protocol.specs.Load.{load, validMemory}
 use Rattle.protocol.specs.declared.Command.{Command}
@@ -38,7 +38,7 @@ after a L = record { answer = a; memory = L }
 abbrev pub afterBy : Carried → (page : List ℕ) → List Reader → (buffers : List ℕ) → After
 afterBy c p rs b = after (c .answer) (lent p (c .pen .writer) rs b)
 
-unfoldable pub onAnswer : Form → (room : ℕ) → Memory → Meant → After
+unfoldable pub onAnswer : Form → (room : ℕ) → Memory → ProtocolAnswer → After
 onAnswer F room L (refused why) = after (Refused why) L
 onAnswer F room L (done σ o) =
     cond (ltb room (length (entry o))) (after (Refused LogFull) L) (after (Done o) (stored F σ))

@@ -22,7 +22,7 @@ use Rattle.protocol.specs.declared.Reader.{Reader}
 use Rattle.protocol.specs.declared.Stage.{Stage}
 use Rattle.page.specs.declared.Answer.{Answer}
 use Rattle.page.specs.declared.Answer.the-variants.{Done, Refused}
-use Rattle.page.specs.declared.ends.Taken.{Taken}
+use Rattle.page.specs.declared.finishing.Taken.{Taken}
 use Rattle.page.specs.Held.{Held, Fits}
 
 -- the answer, the reader and its buffer after a command

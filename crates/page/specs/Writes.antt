@@ -11,14 +11,14 @@ use Rattle.protocol.specs.Form.{Form, goodForm}
 use Rattle.protocol.specs.Layout.{countOrder, countDigits, recordOrder, recordDigits}
 use Rattle.protocol.specs.Allowed.{allowedPage, allowedWriting}
 use Rattle.protocol.specs.State.{stateOf, resting}
-use Rattle.protocol.specs.Step.{Answer as Meant, refused, done, recordAt, carry}
+use Rattle.protocol.specs.Step.{Answer as ProtocolAnswer, refused, done, recordAt, carry}
 use Rattle.protocol.specs.Memory.{storedWriting}
 use Rattle.protocol.specs.Load.{loadWriting}
 use Rattle.protocol.specs.declared.Command.{Command}
 use Rattle.protocol.specs.declared.Writer.{Writer}
 use Rattle.page.specs.declared.Answer.{Answer}
 use Rattle.page.specs.declared.Answer.the-variants.{Done, Refused}
-use Rattle.page.specs.declared.write_step.Put.{Put}
+use Rattle.page.specs.declared.write_step.Store.{Store}
 use Rattle.page.specs.declared.pen.Carried.{Carried}
 use Rattle.page.specs.Held.{pageLength}
 use Rattle.page.specs.Reads.{whoseOf}
@@ -35,13 +35,13 @@ wrote a p w = record { answer = a; page = p; writer = w }
 abbrev pub wroteBy : Carried → List ℕ → Wrote
 wroteBy c p = wrote (c .answer) p (c .pen .writer)
 
-unfoldable pub onMeant : List ℕ → Writer → Meant → Wrote
-onMeant p w (refused why) = wrote (Refused why) p w
-onMeant p w (done σ o) = wrote (Done o) (σ .page) (storedWriting (σ .writing))
+unfoldable pub onProtocol : List ℕ → Writer → ProtocolAnswer → Wrote
+onProtocol p w (refused why) = wrote (Refused why) p w
+onProtocol p w (done σ o) = wrote (Done o) (σ .page) (storedWriting (σ .writing))
 
 -- no command of the writer, nor one of a reader that there is not, looks at a reader
 abbrev pub writes : Form → (records page : List ℕ) → Writer → Command → Wrote
-writes F S p w x = onMeant p w (carry F S (stateOf p (loadWriting w) [] []) x)
+writes F S p w x = onProtocol p w (carry F S (stateOf p (loadWriting w) [] []) x)
 
 -- what such a command asks: all that valid memory gives
 pub record WriteReady (F : Form) (S page : List ℕ) (w : Writer) : Type 0 where
@@ -56,14 +56,14 @@ abbrev pub NoReader : Form → Command → Type 0
 NoReader F x = F .readers ≤ whoseOf x (F .readers)
 
 -- where step k of a write writes, and what
-abbrev pub put : (position digit : ℕ) → Put
-put p d = record { position = p; digit = d }
+abbrev pub store : (position digit : ℕ) → Store
+store p d = record { position = p; digit = d }
 
-abbrev pub countPut : Form → Count → (k : ℕ) → Put
-countPut F c k = put (getD (countOrder F) k 0) (getD (countDigits F c) k 0)
+abbrev pub countStore : Form → Count → (k : ℕ) → Store
+countStore F c k = store (getD (countOrder F) k 0) (getD (countDigits F c) k 0)
 
-abbrev pub recordPut : Form → (records : List ℕ) → Version → (index k : ℕ) → Put
-recordPut F S v i k = put (getD (recordOrder F) k 0) (getD (recordDigits F v (recordAt F S i)) k 0)
+abbrev pub recordStore : Form → (records : List ℕ) → Version → (index k : ℕ) → Store
+recordStore F S v i k = store (getD (recordOrder F) k 0) (getD (recordDigits F v (recordAt F S i)) k 0)
 
 -- the lent writer after one more of so many steps
 unfoldable pub advanced : ℕ → Writer → Writer

@@ -7,8 +7,8 @@ ghost use Rattle.protocol.specs.Memory.{readerOf};
 ghost use Rattle.page.specs.Held.{Held};
 ghost use Rattle.page.specs.Left.{Leaves, begun, begunRecord, cancelled};
 use crate::Answer;
-use crate::ends;
-use crate::ends::Taken;
+use crate::finishing;
+use crate::finishing::Taken;
 use protocol::Format;
 use protocol::Outcome;
 use protocol::Refusal;
@@ -86,6 +86,6 @@ pub(crate) fn drop_read(format: Format, bases: &[u16], stage: Stage, digits: &mu
     fresh::zero(digits);
     Taken {
         answer: Answer::Done(Outcome::Nothing),
-        stage: ends::idle(),
+        stage: finishing::idle(),
     }
 }

@@ -11,8 +11,8 @@ ghost use Rattle.page.specs.Held.{Fits};
 ghost use Rattle.page.specs.At.{AtCount};
 ghost use Rattle.page.specs.Left.{Leaves, stepped, Whole, copyOne, copyTwo, countEnded};
 use crate::Answer;
-use crate::ends;
-use crate::ends::Taken;
+use crate::finishing;
+use crate::finishing::Taken;
 use checks::layout;
 use protocol::Format;
 use protocol::Outcome;
@@ -51,17 +51,17 @@ fn end_count(
                 reader: who,
                 count: c,
             };
-            ends::finish(stage, digits, o, room)
+            finishing::finish(stage, digits, o, room)
         }
         Ends::Between { low: _, high } => {
             let o = Outcome::Shown {
                 reader: who,
                 count: high,
             };
-            ends::finish(stage, digits, o, room)
+            finishing::finish(stage, digits, o, room)
         }
-        Ends::Crossed => ends::back(stage, digits, Refusal::CopiesCrossed),
-        Ends::Refused(_) => ends::back(stage, digits, Refusal::CopiesCrossed),
+        Ends::Crossed => finishing::back(stage, digits, Refusal::CopiesCrossed),
+        Ends::Refused(_) => finishing::back(stage, digits, Refusal::CopiesCrossed),
     }
 }
 

@@ -4,7 +4,7 @@
 mod begins;
 mod cancelling;
 mod count_read;
-mod ends;
+mod finishing;
 mod looping;
 mod opening;
 mod pen;
@@ -26,7 +26,7 @@ use protocol::Refusal;
 use protocol::Writer;
 pub use running::run;
 pub use stepping::step;
-pub use stepping::told;
+pub use stepping::step_of_run;
 
 // What a run answers: commands carried out, bytes of the commands taken, bytes written into the log, how it ended; and
 // the writer as it leaves it.

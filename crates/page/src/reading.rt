@@ -17,7 +17,7 @@ ghost use Rattle.page.specs.Advance.{advancing, onward};
 use crate::Answer;
 use crate::begins;
 use crate::count_read;
-use crate::ends::Taken;
+use crate::finishing::Taken;
 use crate::record_read;
 use checks::layout;
 use protocol::Command;

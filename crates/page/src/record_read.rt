@@ -13,8 +13,8 @@ ghost use Rattle.page.specs.At.{AtRecord};
 ghost use Rattle.page.specs.Advance.{digitsWith, bufferWith};
 ghost use Rattle.page.specs.Left.{leftBy, Leaves, before, stepped, restarted, gaveUp, WholeAttempt, AttemptEnds};
 use crate::Answer;
-use crate::ends;
-use crate::ends::Taken;
+use crate::finishing;
+use crate::finishing::Taken;
 use checks::layout;
 use protocol::Format;
 use protocol::Outcome;
@@ -71,10 +71,10 @@ fn give_up(
         attempts: used,
     };
     if room < codec::size(o) {
-        return ends::back(stage, digits, Refusal::LogFull);
+        return finishing::back(stage, digits, Refusal::LogFull);
     }
     fresh::zero(buffer);
-    ends::finish(stage, digits, o, room)
+    finishing::finish(stage, digits, o, room)
 }
 
 // The last step of an attempt, where all digits are there.
@@ -102,7 +102,7 @@ fn end_attempt(
             attempts: used,
             version: v1,
         };
-        return ends::finish(stage, digits, o, room);
+        return finishing::finish(stage, digits, o, room);
     }
     if used < stage.allowed {
         return again(stage, digits, used);

@@ -19,7 +19,7 @@ use protocol::Writer;
 
 // What the run of one command and zeros told: if the command was carried out, its entry is all of the log, and what
 // the zeros after it answered is nothing to the caller.
-pub fn told(r: Ran, log: [u8; 10]) -> Stepped
+pub fn step_of_run(r: Ran, log: [u8; 10]) -> Stepped
     ensures { λ x. ⌜ x ≡ steppedOf r log ⌝ }
 {
     let w = r.writer;
@@ -73,5 +73,5 @@ pub fn step(
         &bytes,
         &mut log,
     );
-    told(r, log)
+    step_of_run(r, log)
 }

@@ -12,7 +12,7 @@ ghost use Rattle.protocol.specs.declared.Outcome.the-variants.{Nothing};
 ghost use Rattle.checks.specs.Layout.{inContent};
 ghost use Rattle.page.specs.declared.Answer.the-variants.{Done};
 ghost use Rattle.page.specs.Pen.{Knows, inkOf};
-ghost use Rattle.page.specs.Writes.{advanced, countPut, recordPut, wrote, writes, WriteReady};
+ghost use Rattle.page.specs.Writes.{advanced, countStore, recordStore, wrote, writes, WriteReady};
 use crate::pen;
 use crate::pen::Pen;
 use checks::layout;
@@ -22,56 +22,56 @@ use radix::Count;
 use radix::Version;
 
 // Where a step writes, and what.
-pub(crate) struct Put {
+pub(crate) struct Store {
     pub(crate) position: usize,
     pub(crate) digit: u8,
 }
 
 // c2 left to right, c1 right to left.
-fn count_put(format: Format, bases: &[u16], ink: u64, w: Writer) -> Put
+fn count_store(format: Format, bases: &[u16], ink: u64, w: Writer) -> Store
     requires { ⌜ (goodForm (formOf (now bases) format) ≡ true)
         × (w .kind ≡ 1)
         × (bytes 8 ink ≡ inkOf (formOf (now bases) format) w)
         × (w .steps < countSteps (formOf (now bases) format)) ⌝ }
-    ensures { λ r. ⌜ r ≡ countPut (formOf (now (bases .entry)) format) (w .count) (w .steps) ⌝ }
+    ensures { λ r. ⌜ r ≡ countStore (formOf (now (bases .entry)) format) (w .count) (w .steps) ⌝ }
 {
     let k = w.steps;
     let j = layout::there_and_back(bases.len(), k);
-    Put {
+    Store {
         position: layout::count_write(format, bases, k),
         digit: pen::digit(ink, j),
     }
 }
 
 // v1 left to right, v2 right to left.
-fn version_put(format: Format, bases: &[u16], records: &[u8], ink: u64, w: Writer) -> Put
+fn version_store(format: Format, bases: &[u16], records: &[u8], ink: u64, w: Writer) -> Store
     requires { ⌜ (goodForm (formOf (now bases) format) ≡ true)
         × (w .kind ≡ 2)
         × (bytes 8 ink ≡ inkOf (formOf (now bases) format) w)
         × (inRecords (formOf (now bases) format) (now records) (w .index) ≡ true)
         × (inContent (formOf (now bases) format) (w .steps) ≡ false)
         × (w .steps < recordSteps (formOf (now bases) format)) ⌝ }
-    ensures { λ r. ⌜ r ≡ recordPut (formOf (now (bases .entry)) format) (now (records .entry)) (w .version)
+    ensures { λ r. ⌜ r ≡ recordStore (formOf (now (bases .entry)) format) (now (records .entry)) (w .version)
         (w .index) (w .steps) ⌝ }
 {
     let k = w.steps;
     let j = layout::there_and_back(format.q, layout::version_digits(format, bases, k));
-    Put {
+    Store {
         position: layout::record_write(format, bases, k),
         digit: pen::digit(ink, j),
     }
 }
 
 // The bytes ascending.
-fn content_put(format: Format, bases: &[u16], records: &[u8], w: Writer) -> Put
+fn content_store(format: Format, bases: &[u16], records: &[u8], w: Writer) -> Store
     requires { ⌜ (goodForm (formOf (now bases) format) ≡ true)
         × (inRecords (formOf (now bases) format) (now records) (w .index) ≡ true)
         × (inContent (formOf (now bases) format) (w .steps) ≡ true) ⌝ }
-    ensures { λ r. ⌜ r ≡ recordPut (formOf (now (bases .entry)) format) (now (records .entry)) (w .version)
+    ensures { λ r. ⌜ r ≡ recordStore (formOf (now (bases .entry)) format) (now (records .entry)) (w .version)
         (w .index) (w .steps) ⌝ }
 {
     let k = w.steps;
-    Put {
+    Store {
         position: layout::record_write(format, bases, k),
         digit: records[w.index * format.n + (k - format.q)],
     }
@@ -105,7 +105,7 @@ fn step_count(format: Format, bases: &[u16], page: &mut [u8], records: &[u8], p:
 {
     let w = p.writer;
     let ink = pen::ink(format, bases, p);
-    let to = count_put(format, bases, ink, w);
+    let to = count_store(format, bases, ink, w);
     let at = to.position;
     page[at] = to.digit;
     Pen {
@@ -126,7 +126,7 @@ fn step_version(format: Format, bases: &[u16], page: &mut [u8], records: &[u8], 
 {
     let w = p.writer;
     let ink = pen::ink(format, bases, p);
-    let to = version_put(format, bases, records, ink, w);
+    let to = version_store(format, bases, records, ink, w);
     let at = to.position;
     page[at] = to.digit;
     Pen {
@@ -147,7 +147,7 @@ fn step_content(format: Format, bases: &[u16], page: &mut [u8], records: &[u8], 
         × Knows (formOf (now (bases .entry)) format) r ⌝ }
 {
     let w = p.writer;
-    let to = content_put(format, bases, records, w);
+    let to = content_store(format, bases, records, w);
     let at = to.position;
     page[at] = to.digit;
     Pen {

@@ -6,5 +6,4 @@ pub mod Writer
 pub mod Reader
 pub mod Carry
 pub mod Opened
-pub mod Over
 pub mod Commands

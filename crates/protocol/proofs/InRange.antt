@@ -9,7 +9,7 @@ use lib.ListN.{length, replicate, length-replicate}
 use borrow.Author.Tests.{leb-true, le-leb}
 use Rattle.radix.specs.Digits.{product}
 use Rattle.radix.specs.Answers.{all, goodBase, goodBases}
-use Rattle.radix.proofs.Laws.Products.{good-pos, product-eight, product-four}
+use Rattle.radix.proofs.Numbers.Products.{good-pos, product-eight, product-four}
 use Rattle.protocol.specs.Lists.{All}
 use Rattle.protocol.specs.Form.{Form, m, versionBases, between, goodForm}
 use Rattle.protocol.proofs.Lists.Cases.{both, together}

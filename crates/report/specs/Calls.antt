@@ -6,23 +6,23 @@ use Rattle.codec.specs.Entry.{overlay}
 use Rattle.packed.specs.Kept.{Kept}
 use Rattle.report.specs.Turn.{Start, Turn}
 use Rattle.report.specs.declared.Started.{Started}
-use Rattle.report.specs.declared.Told.{Told}
+use Rattle.report.specs.declared.Turned.{Turned}
 
 abbrev pub started : Started → Kept → Start
 started r K = record { progress = r .progress; kept = K }
 
-pub record ToldKept : Type 0 where
-  pub told : Told
+pub record TurnedKept : Type 0 where
+  pub turned : Turned
   pub kept : Kept
   pub line : List ℕ
 
-abbrev pub toldAll : Told → Kept → List ℕ → ToldKept
-toldAll r K line = record { told = r; kept = K; line = line }
+abbrev pub turnedBy : Turned → Kept → List ℕ → TurnedKept
+turnedBy r K line = record { told = r; kept = K; line = line }
 
 -- the turn's text is put over the line that was lent
-abbrev pub toldFrom : List ℕ → Turn → ToldKept
-toldFrom line t = record {
-  told = record {
+abbrev pub turnedFrom : List ℕ → Turn → TurnedKept
+turnedFrom line t = record {
+  turned = record {
     written = length (t .text);
     last = t .last;
     progress = t .progress;

@@ -45,13 +45,13 @@ pub record Turn : Type 0 where
   pub progress : Progress
   pub kept : Kept
 
-abbrev pub ends : Progress → Kept → Ending → Turn
-ends p K e = record { text = endLine (p .done) e; last = true; progress = p; kept = K }
+abbrev pub lastTurn : Progress → Kept → Ending → Turn
+lastTurn p K e = record { text = endLine (p .done) e; last = true; progress = p; kept = K }
 
 -- what one command answered, and left; the next one stands at a place
-unfoldable pub told : (n next : ℕ) → Progress → Kept → Answer → Turn
-told n next p K (Answer.Refused why) = ends p K (Ending.Refused why)
-told n next p K (Answer.Done o) = record {
+unfoldable pub answered : (n next : ℕ) → Progress → Kept → Answer → Turn
+answered n next p K (Answer.Refused why) = lastTurn p K (Ending.Refused why)
+answered n next p K (Answer.Done o) = record {
   text = outcomeLine n (K .buffers) o;
   last = false;
   progress = record { at = next; done = p .done + 1 };
@@ -61,23 +61,23 @@ told n next p K (Answer.Done o) = record {
 -- what is no command ends as a run of it ends: refusals 1 to 3 come before refusal 11
 abbrev pub noCommand : List ℕ → Header → Progress → Kept → Turn
 noCommand s x p K =
-    let y = runKept (x .form) (x .records) K (drop (p .at) s) (0 ∷ []) in ends p (y .kept) (y .ran .ending)
+    let y = runKept (x .form) (x .records) K (drop (p .at) s) (0 ∷ []) in lastTurn p (y .kept) (y .ran .ending)
 
 unfoldable pub carried : List ℕ → Header → Progress → Kept → Decoded → Turn
 carried s x p K Decoded.Over = noCommand s x p K
 carried s x p K Decoded.Unknown = noCommand s x p K
 carried s x p K (Decoded.Is c next) =
-    let y = stepKept (x .form) (x .records) K c in told (x .form .n) next p (y .kept) (y .answer)
+    let y = stepKept (x .form) (x .records) K c in answered (x .form .n) next p (y .kept) (y .answer)
 
 abbrev pub carryOut : List ℕ → Header → Progress → Kept → Turn
 carryOut s x p K = carried s x p K (decodeAt s (p .at))
 
 -- a place beyond the input, or more commands done than bytes before it, is no run's
 unfoldable pub turnOf : List ℕ → Progress → Kept → Parsed → Turn
-turnOf s p K (refused why) = ends p K (Ending.Refused why)
+turnOf s p K (refused why) = lastTurn p K (Ending.Refused why)
 turnOf s p K (header x) =
-    cond (ltb (length s) (p .at) || ltb (p .at) (p .done)) (ends p K (Ending.Refused InvalidState))
-    (cond (eqb (p .at) (length s)) (ends p K Ending.Finished) (carryOut s x p K))
+    cond (ltb (length s) (p .at) || ltb (p .at) (p .done)) (lastTurn p K (Ending.Refused InvalidState))
+    (cond (eqb (p .at) (length s)) (lastTurn p K Ending.Finished) (carryOut s x p K))
 
 -- ALL TURNS, one after the other, up to the last
 unfoldable pub turns : (fuel : ℕ) → List ℕ → Parsed → Progress → Kept → List ℕ

@@ -32,7 +32,7 @@ pub struct Started {
 
 // What a turn tells: how many bytes of text there are in the line, whether it is the last turn, and what the next one
 // takes up.
-pub struct Told {
+pub struct Turned {
     pub written: usize,
     pub last: bool,
     pub progress: Progress,

@@ -9,9 +9,9 @@ ghost use Rattle.report.specs.Header.{header, headerIn, parse as parseOf
 ghost use Rattle.report.specs.Found.{foundIn};
 ghost use Rattle.report.specs.Text.{endLine};
 ghost use Rattle.report.specs.Turn.{turnOf, carryOut};
-ghost use Rattle.report.specs.Calls.{toldAll, toldFrom};
+ghost use Rattle.report.specs.Calls.{turnedBy, turnedFrom};
 use crate::Progress;
-use crate::Told;
+use crate::Turned;
 use crate::header;
 use crate::header::Header;
 use crate::header::Parsed;
@@ -23,12 +23,12 @@ use protocol::Refusal;
 use protocol::Writer;
 
 // The last turn.
-fn ends(p: Progress, w: Writer, e: Ending, line: &mut [u8; 640]) -> Told
+fn last_turn(p: Progress, w: Writer, e: Ending, line: &mut [u8; 640]) -> Turned
     ensures { λ r. ⌜ (r ≡ record { written = length (endLine (p .done) e); last = true; progress = p; writer = w })
         × (now (line .exit) ≡ overlay (now (line .entry)) 0 (endLine (p .done) e)) ⌝ }
 {
     let written = line::put_end(line, p.done, e);
-    Told {
+    Turned {
         written: written,
         last: true,
         progress: p,
@@ -47,14 +47,14 @@ fn carry_out(
     states: &mut [u8],
     buffers: &mut [u8],
     line: &mut [u8; 640],
-) -> Told
+) -> Turned
     requires { ⌜ (h ≡ foundIn (now input))
         × (parseOf false (now input) ≡ header (headerIn (now input)))
         × (p .at < length (now input))
         × (p .done ≤ p .at) ⌝ }
-    ensures { λ r. ⌜ toldAll r (kept (now (page .exit)) (r .writer) (now (states .exit)) (now (buffers .exit)))
+    ensures { λ r. ⌜ turnedBy r (kept (now (page .exit)) (r .writer) (now (states .exit)) (now (buffers .exit)))
         (now (line .exit))
-        ≡ toldFrom (now (line .entry))
+        ≡ turnedFrom (now (line .entry))
         (carryOut (now (input .entry)) (headerIn (now (input .entry))) p
         (kept (now (page .entry)) writer (now (states .entry)) (now (buffers .entry)))) ⌝ }
 {
@@ -80,7 +80,7 @@ fn carry_out(
         );
         let e = r.ending;
         let w = r.writer;
-        return ends(p, w, e, line);
+        return last_turn(p, w, e, line);
     };
     let s = packed::step(
         states,
@@ -95,10 +95,10 @@ fn carry_out(
     let a = s.answer;
     let w = s.writer;
     match a {
-        Answer::Refused(why) => ends(p, w, Ending::Refused(why), line),
+        Answer::Refused(why) => last_turn(p, w, Ending::Refused(why), line),
         Answer::Done(o) => {
             let written = line::put(line, f.n, buffers, o);
-            Told {
+            Turned {
                 written: written,
                 last: false,
                 progress: Progress {
@@ -121,10 +121,10 @@ pub fn next(
     states: &mut [u8],
     buffers: &mut [u8],
     line: &mut [u8; 640],
-) -> Told
-    ensures { λ r. ⌜ toldAll r (kept (now (page .exit)) (r .writer) (now (states .exit)) (now (buffers .exit)))
+) -> Turned
+    ensures { λ r. ⌜ turnedBy r (kept (now (page .exit)) (r .writer) (now (states .exit)) (now (buffers .exit)))
         (now (line .exit))
-        ≡ toldFrom (now (line .entry))
+        ≡ turnedFrom (now (line .entry))
         (turnOf (now (input .entry)) p (kept (now (page .entry)) writer (now (states .entry)) (now (buffers .entry)))
         (parseOf more (now (input .entry)))) ⌝ }
     ensures { λ r. ⌜ (r .last ≡ false → (p .at < r .progress .at) × (r .progress .at ≤ length (now (input .entry)))) ⌝ }
@@ -132,13 +132,13 @@ pub fn next(
 {
     let x = header::parse(input, more);
     match x {
-        Parsed::Refused(why) => ends(p, writer, Ending::Refused(why), line),
+        Parsed::Refused(why) => last_turn(p, writer, Ending::Refused(why), line),
         Parsed::Is(h) => {
             if input.len() < p.at || p.at < p.done {
-                return ends(p, writer, Ending::Refused(Refusal::InvalidState), line);
+                return last_turn(p, writer, Ending::Refused(Refusal::InvalidState), line);
             }
             if p.at == input.len() {
-                return ends(p, writer, Ending::Finished, line);
+                return last_turn(p, writer, Ending::Finished, line);
             }
             carry_out(input, h, p, page, writer, states, buffers, line)
         }

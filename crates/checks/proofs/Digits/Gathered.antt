@@ -7,7 +7,7 @@ use native.Mathlib.Omega.{arith}
 use lib.Dec.{ltb}
 use lib.ListN.{length, getD, drop, replicate, length-replicate, replicate-append-replicate}
 use Rattle.radix.specs.Digits.{valid}
-use Rattle.radix.proofs.Laws.Places.{empty}
+use Rattle.radix.proofs.Numbers.Places.{empty}
 use Rattle.protocol.specs.Lists.{every}
 use Rattle.protocol.specs.Load.{same}
 use Rattle.protocol.specs.Memory.{eight, storedDigits}

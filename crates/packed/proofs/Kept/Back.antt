@@ -15,7 +15,7 @@ use Rattle.checks.proofs.Endings.{not-finished}
 use Rattle.page.specs.Carry.{lent}
 use Rattle.packed.specs.States.{packAll, unpackFrom, UnpackedLent, unpackedLent, unpackAll}
 use Rattle.packed.specs.Kept.{Kept, statesOf, unpackedOf, packedOver}
-use Rattle.packed.proofs.Laws.RoundTrip.{Lendable, packed-back}
+use Rattle.packed.proofs.Packings.RoundTrip.{Lendable, packed-back}
 use Rattle.packed.proofs.Kept.States.{states-are, unpacks}
 
 fitted : (rs : List Reader) (l : List ℕ) → unpackAll rs l .ending ≡ Finished → length l ≡ length rs * 27

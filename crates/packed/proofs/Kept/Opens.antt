@@ -26,10 +26,10 @@ use Rattle.page.specs.Start.{refusing}
 use Rattle.fresh.specs.Opening.{OpenedLent, openedLent, openLent, openedReaders}
 use Rattle.packed.specs.States.{packAll, unpackFrom}
 use Rattle.packed.specs.Kept.{Kept, kept, statesOf, unpackedOf, packedOver, openedKept, openKept}
-use Rattle.fresh.proofs.Laws.Endings.{is-finished, cleared, stayed}
-use Rattle.fresh.proofs.Laws.Opens.{done-open as page-opened}
-use Rattle.packed.proofs.Laws.Packs.{unpacked-length}
-use Rattle.packed.proofs.Laws.RoundTrip.{Bytes}
+use Rattle.fresh.proofs.Openings.Endings.{is-finished, cleared, stayed}
+use Rattle.fresh.proofs.Openings.Opens.{done-open as page-opened}
+use Rattle.packed.proofs.Packings.Packs.{unpacked-length}
+use Rattle.packed.proofs.Packings.RoundTrip.{Bytes}
 use Rattle.packed.proofs.Kept.States.{by-states, stays}
 
 -- idle readers are zeros

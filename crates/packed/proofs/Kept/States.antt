@@ -14,8 +14,8 @@ use Rattle.protocol.specs.declared.Refusal.the-variants.{WrongLength}
 use Rattle.protocol.proofs.Lists.Cases.{both}
 use Rattle.packed.specs.States.{packedLent, packAll, unpackFrom, unpackedLent, unpackAll}
 use Rattle.packed.specs.Kept.{statesOf}
-use Rattle.packed.proofs.Laws.Packs.{unpacked-length}
-use Rattle.packed.proofs.Laws.RoundTrip.{Bytes, pack-unpacked}
+use Rattle.packed.proofs.Packings.Packs.{unpacked-length}
+use Rattle.packed.proofs.Packings.RoundTrip.{Bytes, pack-unpacked}
 
 -- they are the states of at most sixteen readers, or none
 pub by-states :

@@ -14,7 +14,7 @@ use Rattle.radix.specs.declared.Comparison.the-variants.{Equal, Parted, Crossed
 use Rattle.radix.specs.Digits.{product, value, valid}
 use Rattle.radix.specs.Copies.{compare}
 use Rattle.radix.proofs.Theorems.RoundTrip.{valid-sound, value-lt}
-use Rattle.radix.proofs.Laws.Ends.{zeros-after, ends-fit}
+use Rattle.radix.proofs.Parting.Ends.{zeros-after, ends-fit}
 use Rattle.protocol.specs.Lists.{every}
 use Rattle.protocol.specs.Form.{Form, m, versionBases, countSteps, recordSteps, goodForm}
 use Rattle.protocol.specs.Layout.{look, c2, v1}

@@ -9,7 +9,7 @@ use borrow.Author.Tests.{ltb-false}
 use Rattle.protocol.specs.Form.{Form}
 use Rattle.protocol.specs.Memory.{Memory}
 use Rattle.protocol.specs.Load.{load}
-use Rattle.protocol.specs.Run.{Event, Run, Ran as Meant, stop, inMemory, run, logAfter}
+use Rattle.protocol.specs.Run.{Event, Run, Ran as ProtocolAnswer, stop, inMemory, run, logAfter}
 use Rattle.protocol.specs.declared.Ending.{Ending}
 use Rattle.protocol.proofs.Memory.Stored.{stored-load}
 use Rattle.protocol.proofs.Runs.Fuel.{full, full-over}
@@ -73,7 +73,7 @@ module _
           writer = L .writer;
         })
         L (g .so .wrote i))
-        ∙ sym (ap (λ (x : Meant).
+        ∙ sym (ap (λ (x : ProtocolAnswer).
         ranLent (ranOf s (x .events) (x .ending) (x .memory .writer)) (x .memory) (logAfter (x .events) log₀)) ran)
 
     -- the rest of the commands ends at once

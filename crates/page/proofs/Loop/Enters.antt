@@ -5,7 +5,7 @@ use Prim.Native.Nat.{ℕ, _+_}
 use native.Mathlib.Omega.{arith}
 use Rattle.protocol.specs.Form.{Form}
 use Rattle.protocol.specs.State.{stateOf}
-use Rattle.protocol.specs.Step.{Answer as Meant, refused, done, carry}
+use Rattle.protocol.specs.Step.{Answer as ProtocolAnswer, refused, done, carry}
 use Rattle.protocol.specs.Load.{loadWriting}
 use Rattle.protocol.specs.declared.Command.{Command}
 use Rattle.protocol.specs.declared.Outcome.{Outcome}
@@ -18,7 +18,7 @@ use Rattle.page.specs.declared.Answer.{Answer}
 use Rattle.page.specs.declared.Answer.the-variants.{Done, Refused}
 use Rattle.page.specs.declared.looping.Standing.{Standing}
 use Rattle.page.specs.declared.looping.Verdict.{Verdict}
-use Rattle.page.specs.Writes.{onMeant, writes, NoReader}
+use Rattle.page.specs.Writes.{onProtocol, writes, NoReader}
 use Rattle.page.specs.Loop.{standing, stopped, entered, enterOf}
 use Rattle.page.proofs.Writes.Beside.{Quiet, alone}
 
@@ -54,8 +54,8 @@ enter-same log z next (Done o) q =
 
 -- a command that is no reader's logs nothing
 module _ (page : List ℕ) (w : Writer) where
-  answer-nothing : (m : Meant) → Quiet m → (o : Outcome) → onMeant page w m .answer ≡ Done o → o ≡ Nothing
-  unfolding onMeant
+  answer-nothing : (m : ProtocolAnswer) → Quiet m → (o : Outcome) → onProtocol page w m .answer ≡ Done o → o ≡ Nothing
+  unfolding onProtocol
   answer-nothing (refused why) q o e = absurd (let z : _≡_ {A = ℕ} 0 1 = cc in omega arith)
   answer-nothing (done σ x) q o e = let same : x ≡ o = cc in sym same ∙ q
 

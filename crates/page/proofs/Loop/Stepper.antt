@@ -8,8 +8,8 @@ use lib.Dec.{eqb, leb, ltb}
 use lib.ListN.{length, getD, drop}
 use borrow.Author.Tests.{eqb-true, eqb-false, ltb-true, ltb-false, ne-eqb}
 use Rattle.radix.specs.Digits.{ofBytes}
-use Rattle.radix.proofs.Laws.Places.{from}
-use Rattle.protocol.specs.Command.{Decoded as Meant, unknown, command, withBody, decode}
+use Rattle.radix.proofs.Numbers.Places.{from}
+use Rattle.protocol.specs.Command.{Decoded as ProtocolDecoded, unknown, command, withBody, decode}
 use Rattle.protocol.specs.declared.Command.{Command}
 use Rattle.protocol.specs.declared.Command.the-variants.{ReaderStep}
 use Rattle.codec.specs.Decode.{asDecoded, decodeAt}
@@ -19,10 +19,10 @@ use Rattle.page.specs.Loop.{stepperOf, stepperIn}
 
 -- NO STEP
 module _ (size none : ℕ) where
-  abbrev None : Meant → Type 0
+  abbrev None : ProtocolDecoded → Type 0
   None d = none ≡ stepperIn (asDecoded size d) none
 
-  either : (t : Bool) (a b : Meant) → None a → None b → None (cond t a b)
+  either : (t : Bool) (a b : ProtocolDecoded) → None a → None b → None (cond t a b)
   either true a b p q = p
   either false a b p q = q
 

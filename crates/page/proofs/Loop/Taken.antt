@@ -6,7 +6,7 @@ use native.Mathlib.Nat.{zero-add}
 use native.Mathlib.Omega.{arith}
 use lib.ListN.{length, drop, length-drop}
 use lib.Seq.{drop-drop}
-use Rattle.protocol.specs.Command.{Decoded as Meant, over, unknown, command, decode}
+use Rattle.protocol.specs.Command.{Decoded as ProtocolDecoded, over, unknown, command, decode}
 use Rattle.protocol.specs.declared.Command.{Command}
 use Rattle.protocol.proofs.Runs.Decode.{Front, decode-front}
 use Rattle.codec.proofs.Next.{rest-at, Next}
@@ -17,7 +17,7 @@ unfolding bytesOf
 none-taken s = refl
 
 -- one command
-one-taken : (s : List ℕ) {d : Meant} → decode s ≡ d → bytesOf 1 s ≡ bytesFrom (bytesOf 0) s d
+one-taken : (s : List ℕ) {d : ProtocolDecoded} → decode s ≡ d → bytesOf 1 s ≡ bytesFrom (bytesOf 0) s d
 unfolding bytesOf
 one-taken s e = ap (bytesFrom (bytesOf 0) s) e
 
@@ -32,7 +32,7 @@ abbrev OneMore : ℕ → List ℕ → Type 0
 OneMore k s = bytesOf (suc k) s ≡ bytesOf k s + bytesOf 1 (drop (bytesOf k s) s)
 
 behind-first :
-    (k : ℕ) (s : List ℕ) → ((t : List ℕ) → OneMore k t) → (d : Meant) → decode s ≡ d →
+    (k : ℕ) (s : List ℕ) → ((t : List ℕ) → OneMore k t) → (d : ProtocolDecoded) → decode s ≡ d →
     bytesFrom (bytesOf (suc k)) s d ≡ bytesFrom (bytesOf k) s d + bytesOf 1 (drop (bytesFrom (bytesOf k) s d) s)
 unfolding bytesFrom
 behind-first k s more over e = omega (arith, one-taken s e)

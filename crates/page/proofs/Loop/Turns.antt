@@ -10,7 +10,7 @@ use borrow.Author.Tests.{ltb-false, ltb-true}
 use Rattle.protocol.specs.Form.{Form}
 use Rattle.protocol.specs.State.{State}
 use Rattle.protocol.specs.Outcome.{entry}
-use Rattle.protocol.specs.Step.{Answer as Meant, refused, done, carry}
+use Rattle.protocol.specs.Step.{Answer as ProtocolAnswer, refused, done, carry}
 use Rattle.protocol.specs.Allowed.{allowed}
 use Rattle.protocol.specs.Memory.{Memory, stored}
 use Rattle.protocol.specs.Load.{load}
@@ -184,7 +184,7 @@ module _
 
       -- by its answer
       on-answer :
-          (a : Meant) → carry F S σ x ≡ a → full F S room σ left ≡ answered (full F S) room σ t a →
+          (a : ProtocolAnswer) → carry F S σ x ≡ a → full F S room σ left ≡ answered (full F S) room σ t a →
           (let c = onAnswer F room L a in
           let u = enterOf (z .log) y next (c .answer) in
           Law (round (u .standing) (c .memory) (u .log)))

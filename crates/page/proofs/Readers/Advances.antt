@@ -18,7 +18,7 @@ use Rattle.protocol.specs.declared.Reader.{Reader}
 use Rattle.protocol.specs.declared.Stage.{Stage}
 use Rattle.checks.specs.Layout.{slotOf}
 use Rattle.page.specs.declared.Answer.the-variants.{Done}
-use Rattle.page.specs.declared.ends.Taken.{Taken}
+use Rattle.page.specs.declared.finishing.Taken.{Taken}
 use Rattle.page.specs.At.{AtCount, AtRecord}
 use Rattle.page.specs.Advance.{advancing, onward, digitsWith, bufferWith}
 use Rattle.page.specs.Reads.{readBy, readsAt, ReadReady}

@@ -26,7 +26,7 @@ use Rattle.protocol.specs.declared.Outcome.the-variants.{Nothing}
 use Rattle.protocol.specs.declared.Refusal.the-variants.{Busy, NothingPending, NoSuch}
 use Rattle.protocol.specs.declared.Reader.{Reader}
 use Rattle.page.specs.declared.Answer.the-variants.{Done, Refused}
-use Rattle.page.specs.declared.ends.Taken.{Taken}
+use Rattle.page.specs.declared.finishing.Taken.{Taken}
 use Rattle.page.specs.Left.{
   Left,
   left,

@@ -8,7 +8,7 @@ use Rattle.radix.specs.Digits.{product, value}
 use Rattle.protocol.specs.Form.{Form, versionBases}
 use Rattle.protocol.specs.Layout.{c2, v1, look}
 use Rattle.protocol.specs.State.{Writing, resting, aCount, aRecord, Reading, stateOf, busyWriting}
-use Rattle.protocol.specs.Step.{Answer as Meant, refused, done, refuseIf, inRecords, stepWriter, carry}
+use Rattle.protocol.specs.Step.{Answer as ProtocolAnswer, refused, done, refuseIf, inRecords, stepWriter, carry}
 use Rattle.protocol.specs.declared.Command.{Command}
 use Rattle.protocol.specs.declared.Command.the-variants.{
   WriteCount,
@@ -32,26 +32,26 @@ use Rattle.page.specs.Writes.{NoReader}
 use Rattle.page.proofs.Writes.NoReader.{none-counts, none-records, none-steps, none-cancels}
 
 -- an answer with these readers beside it
-abbrev pub beside : List Reading → List (List ℕ) → Meant → Meant
+abbrev pub beside : List Reading → List (List ℕ) → ProtocolAnswer → ProtocolAnswer
 beside rs bs (refused why) = refused why
 beside rs bs (done σ o) = done (stateOf (σ .page) (σ .writing) rs bs) o
 
 -- it logs nothing
-abbrev pub Quiet : Meant → Type 0
+abbrev pub Quiet : ProtocolAnswer → Type 0
 Quiet (refused why) = Unit {0}
 Quiet (done σ o) = o ≡ Nothing
 
 -- what is to be shown of an answer x with these readers, and of y without
-abbrev pub Alone : List Reading → List (List ℕ) → Meant → Meant → Type 0
+abbrev pub Alone : List Reading → List (List ℕ) → ProtocolAnswer → ProtocolAnswer → Type 0
 Alone rs bs x y = (x ≡ beside rs bs y) × Quiet y
 
 module _ (rs : List Reading) (bs : List (List ℕ)) where
   first :
-      (t : Bool) (why : Refusal) (x y : Meant) → Alone rs bs x y → Alone rs bs (refuseIf t why x) (refuseIf t why y)
+      (t : Bool) (why : Refusal) (x y : ProtocolAnswer) → Alone rs bs x y → Alone rs bs (refuseIf t why x) (refuseIf t why y)
   first true why x y h = (refl, tt)
   first false why x y h = h
 
-  no-one : {x y : Meant} → x ≡ refused NoSuch → y ≡ refused NoSuch → Alone rs bs x y
+  no-one : {x y : ProtocolAnswer} → x ≡ refused NoSuch → y ≡ refused NoSuch → Alone rs bs x y
   no-one {x} {y} e f = rw (e, f) (refl, tt)
 
   module _ (F : Form) (S page : List ℕ) where

@@ -17,18 +17,18 @@ use Rattle.protocol.specs.declared.Outcome.the-variants.{Nothing}
 use Rattle.protocol.specs.declared.Writer.{Writer}
 use Rattle.protocol.specs.declared.Refusal.the-variants.{CountTooLarge, CountDecreases, Busy}
 use Rattle.page.specs.declared.Answer.the-variants.{Done, Refused}
-use Rattle.page.specs.Writes.{wrote, onMeant, writes, WriteReady}
+use Rattle.page.specs.Writes.{wrote, onProtocol, writes, WriteReady}
 use Rattle.page.proofs.Writes.Writers.{at-rest, at-work}
 
 module _ (F : Form) (S page : List ℕ) (w : Writer) (c : Count) (ready : WriteReady F S page w) where
   pub count-busy : (w .kind ≡ 0 → ⊥) → wrote (Refused Busy) page w ≡ writes F S page w (WriteCount c)
-  unfolding carry onMeant
+  unfolding carry onProtocol
   count-busy n = rw (at-work w (ready .kept) n)
 
   module _ (rest : w .kind ≡ 0) where
     pub count-large :
         product (F .bases) ≤ c .0 → wrote (Refused CountTooLarge) page w ≡ writes F S page w (WriteCount c)
-    unfolding carry onMeant
+    unfolding carry onProtocol
     count-large h = rw (at-rest w (ready .kept) rest, le-leb (product (F .bases)) (c .0) h)
 
     module _
@@ -49,7 +49,7 @@ module _ (F : Form) (S page : List ℕ) (w : Writer) (c : Count) (ready : WriteR
               ap (λ (n : Count). n .0) p
 
           pub count-falls : c .0 < n .0 → wrote (Refused CountDecreases) page w ≡ writes F S page w (WriteCount c)
-          unfolding carry onMeant
+          unfolding carry onProtocol
           count-falls h =
               rw (
                 at-rest w (ready .kept) rest,
@@ -62,7 +62,7 @@ module _ (F : Form) (S page : List ℕ) (w : Writer) (c : Count) (ready : WriteR
               wrote (Done Nothing) page
               (record { kind = 1; count = c; version = record { 0 = 0 }; index = 0; steps = 0 })
               ≡ writes F S page w (WriteCount c)
-          unfolding carry onMeant storedWriting
+          unfolding carry onProtocol storedWriting
           count-begins h =
               rw (
                 at-rest w (ready .kept) rest,

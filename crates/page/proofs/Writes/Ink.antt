@@ -17,7 +17,7 @@ use Rattle.radix.specs.declared.Fault.the-variants.{TooLarge}
 use Rattle.radix.specs.declared.Written.{Written}
 use Rattle.radix.specs.declared.Written.the-variants.{Done}
 use Rattle.radix.proofs.Theorems.RoundTrip.{length-digits, bytes-ofBytes}
-use Rattle.radix.proofs.Laws.Bases.{Good, few, each, least, most, others}
+use Rattle.radix.proofs.Numbers.Bases.{Good, few, each, least, most, others}
 use Rattle.protocol.specs.Memory.{eight}
 use Rattle.page.specs.declared.pen.Inked.{Inked}
 use Rattle.page.specs.Pen.{inked}

@@ -9,7 +9,7 @@ use Rattle.protocol.specs.Lists.{concat, every}
 use Rattle.protocol.specs.Form.{Form}
 use Rattle.protocol.specs.State.{Writing, Reading, stateOf}
 use Rattle.protocol.specs.Outcome.{entry}
-use Rattle.protocol.specs.Step.{Answer as Meant, refused, done, carry}
+use Rattle.protocol.specs.Step.{Answer as ProtocolAnswer, refused, done, carry}
 use Rattle.protocol.specs.Allowed.{allowedPage, allowedWriting, allowedReading, allowed}
 use Rattle.protocol.specs.Memory.{Memory, storedWriting, storedReading, stored}
 use Rattle.protocol.specs.Load.{loadWriting, loadReading, parts, load}
@@ -22,7 +22,7 @@ use Rattle.protocol.proofs.Memory.Entries.{sameWriter-eq, stored-loadReadings}
 use Rattle.protocol.proofs.Memory.Stored.{lengths-parts, valid-parts}
 use Rattle.page.specs.declared.Answer.the-variants.{Done}
 use Rattle.page.specs.Reads.{whoseOf}
-use Rattle.page.specs.Writes.{Wrote, onMeant, writes, WriteReady, NoReader}
+use Rattle.page.specs.Writes.{Wrote, onProtocol, writes, WriteReady, NoReader}
 use Rattle.page.specs.Carry.{lent, Ready, After, after, onAnswer, carryLent}
 use Rattle.page.proofs.Writes.Beside.{beside, Quiet, alone}
 
@@ -82,9 +82,9 @@ module _ (F : Form) (S : List ℕ) (L : Memory) (ready : Ready F S L) where
   answer-nothing room page w = rw leb·suc-zero (ap (after (Done Nothing)) (stored-beside page w))
 
   answers :
-      (room : ℕ) (a : Meant) → Quiet a →
-      onAnswer F room L (beside readings buffers a) ≡ among L (onMeant (L .page) (L .writer) a)
-  unfolding onMeant
+      (room : ℕ) (a : ProtocolAnswer) → Quiet a →
+      onAnswer F room L (beside readings buffers a) ≡ among L (onProtocol (L .page) (L .writer) a)
+  unfolding onProtocol
   answers room (refused why) q = unfold onAnswer in refl
   answers room (done σ o) q =
       ap (λ (o : Outcome). onAnswer F room L (done (stateOf (σ .page) (σ .writing) readings buffers) o)) q

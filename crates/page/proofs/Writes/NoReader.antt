@@ -13,7 +13,7 @@ use Rattle.protocol.specs.declared.Refusal.the-variants.{NoSuch}
 use Rattle.protocol.specs.declared.Writer.{Writer}
 use Rattle.page.specs.declared.Answer.the-variants.{Refused}
 use Rattle.page.specs.Reads.{whoseOf}
-use Rattle.page.specs.Writes.{NoReader, wrote, onMeant, writes}
+use Rattle.page.specs.Writes.{NoReader, wrote, onProtocol, writes}
 
 module _ (F : Form) (S : List ℕ) (σ : State) (r : ℕ) where
   pub none-counts : NoReader F (BeginCountRead r) → carry F S σ (BeginCountRead r) ≡ refused NoSuch
@@ -37,5 +37,5 @@ pub no-such :
     (F : Form) (S page : List ℕ) (w : Writer) {x : Command} (y : Command) → x ≡ y →
     carry F S (stateOf page (loadWriting w) [] []) y ≡ refused NoSuch →
     wrote (Refused NoSuch) page w ≡ writes F S page w x
-unfolding onMeant
+unfolding onProtocol
 no-such F S page w y is e = rw (is, e)

@@ -21,7 +21,7 @@ use Rattle.protocol.specs.declared.Refusal.the-variants.{Busy, NoSuch, Versions
 use Rattle.protocol.proofs.InRange.{in-range}
 use Rattle.checks.proofs.Records.{index-whole}
 use Rattle.page.specs.declared.Answer.the-variants.{Done, Refused}
-use Rattle.page.specs.Writes.{wrote, onMeant, writes, WriteReady}
+use Rattle.page.specs.Writes.{wrote, onProtocol, writes, WriteReady}
 use Rattle.page.proofs.Writes.Writers.{at-rest, at-work}
 
 -- a record is there exactly if its index is below the number of records
@@ -37,12 +37,12 @@ module _ (F : Form) (S page : List ℕ) (w : Writer) (i : ℕ) (ready : WriteRea
   some-bytes = in-range F (ready .good) .bytes .0
 
   pub record-absent : length S / F .n ≤ i → wrote (Refused NoSuch) page w ≡ writes F S page w (WriteRecord i)
-  unfolding carry onMeant
+  unfolding carry onProtocol
   record-absent h = rw (not-there F S i some-bytes h)
 
   module _ (h : i < length S / F .n) where
     pub record-busy : (w .kind ≡ 0 → ⊥) → wrote (Refused Busy) page w ≡ writes F S page w (WriteRecord i)
-    unfolding carry onMeant
+    unfolding carry onProtocol
     record-busy n = rw (there F S i some-bytes h, at-work w (ready .kept) n)
 
     module _
@@ -65,7 +65,7 @@ module _ (F : Form) (S page : List ℕ) (w : Writer) (i : ℕ) (ready : WriteRea
           pub record-large :
               product (versionBases F) ≤ n .0 + 1 →
               wrote (Refused VersionsExhausted) page w ≡ writes F S page w (WriteRecord i)
-          unfolding carry onMeant
+          unfolding carry onProtocol
           record-large l =
               rw (
                 there F S i some-bytes h,
@@ -91,7 +91,7 @@ module _ (F : Form) (S page : List ℕ) (w : Writer) (i : ℕ) (ready : WriteRea
                 steps = 0;
               })
               ≡ writes F S page w (WriteRecord i)
-          unfolding carry onMeant storedWriting
+          unfolding carry onProtocol storedWriting
           record-begins low =
               let v : n .0 + 1 ≡ suc (value (versionBases F) (look page (v1 F))) = omega (arith, last-is) in
               rw (

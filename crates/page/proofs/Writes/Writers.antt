@@ -25,9 +25,9 @@ use Rattle.protocol.proofs.Allowed.Means.{writing-means}
 use Rattle.page.specs.declared.Answer.the-variants.{Done, Refused}
 use Rattle.page.specs.declared.pen.Pen.{Pen}
 use Rattle.page.specs.declared.pen.Carried.{Carried}
-use Rattle.page.specs.declared.write_step.Put.{Put}
+use Rattle.page.specs.declared.write_step.Store.{Store}
 use Rattle.page.specs.Pen.{inkOf, Writable, Knows}
-use Rattle.page.specs.Writes.{countPut, recordPut, Wrote, wrote, wroteBy, onMeant, writes, advanced, WriteReady}
+use Rattle.page.specs.Writes.{countStore, recordStore, Wrote, wrote, wroteBy, onProtocol, writes, advanced, WriteReady}
 
 -- WHAT THE KIND SAYS
 
@@ -109,13 +109,13 @@ module _
     (S page : List ℕ)
     (w : Writer)
     (kept : storedWriting (loadWriting w) ≡ w)
-    {p : Put}
+    {p : Store}
     {r : Writer}
   where
     pub stepped-count :
-        w .kind ≡ 1 → p ≡ countPut F (w .count) (w .steps) → r ≡ advanced (countSteps F) w →
+        w .kind ≡ 1 → p ≡ countStore F (w .count) (w .steps) → r ≡ advanced (countSteps F) w →
         wrote (Done Nothing) (set page (p .position) (p .digit)) r ≡ writes F S page w WriterStep
-    unfolding carry stepWriter onMeant
+    unfolding carry stepWriter onProtocol
     stepped-count is f g =
         let e = load-count w is in
         let a =
@@ -124,9 +124,9 @@ module _
         rw (e, f, g, a)
 
     pub stepped-record :
-        w .kind ≡ 2 → p ≡ recordPut F S (w .version) (w .index) (w .steps) → r ≡ advanced (recordSteps F) w →
+        w .kind ≡ 2 → p ≡ recordStore F S (w .version) (w .index) (w .steps) → r ≡ advanced (recordSteps F) w →
         wrote (Done Nothing) (set page (p .position) (p .digit)) r ≡ writes F S page w WriterStep
-    unfolding carry stepWriter onMeant
+    unfolding carry stepWriter onProtocol
     stepped-record is f g =
         let e = load-record w is in
         let a = ap (advanced (recordSteps F)) (sym kept ∙ ap storedWriting e)
@@ -137,7 +137,7 @@ module _
 pub nothing-pending :
     (F : Form) (S page : List ℕ) (w : Writer) → storedWriting (loadWriting w) ≡ w → w .kind ≡ 0 →
     wrote (Refused NothingPending) page w ≡ writes F S page w WriterStep
-unfolding carry stepWriter onMeant
+unfolding carry stepWriter onProtocol
 nothing-pending F S page w kept rest = rw (at-rest w kept rest)
 
 -- what an allowed write says of its steps and its number

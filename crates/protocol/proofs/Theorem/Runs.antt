@@ -54,7 +54,7 @@ use Rattle.protocol.proofs.Lists.Cases.{by-cond, together}
 use Rattle.protocol.proofs.Memory.Sized.{Sized}
 use Rattle.protocol.proofs.Memory.Stored.{load-stored, stored-valid, stored-lengths}
 use Rattle.protocol.proofs.Allowed.Commands.{commands-kept}
-use Rattle.protocol.proofs.Allowed.Over.{allowed-over}
+use Rattle.protocol.proofs.Commands.Over.{allowed-over}
 use Rattle.protocol.proofs.Commands.Invariant.{Stocked, Proper, Usual, usual, Inv, Goes, judged-inv}
 use Rattle.protocol.proofs.Commands.Fits.{Carried, carried-fits}
 use Rattle.protocol.proofs.Commands.Stock.{InStock, carried-stock}

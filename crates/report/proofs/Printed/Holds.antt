@@ -19,8 +19,8 @@ use Rattle.protocol.proofs.Allowed.Means.{GoodReading}
 use Rattle.protocol.proofs.Memory.Digits.{length-storedDigits}
 use Rattle.fresh.specs.Opening.{openLent}
 use Rattle.packed.specs.Kept.{Kept, statesOf, unpackedOf, packedOver, openKept}
-use Rattle.packed.proofs.Laws.Packs.{unpacked-length}
-use Rattle.packed.proofs.Laws.RoundTrip.{Lendable}
+use Rattle.packed.proofs.Packings.Packs.{unpacked-length}
+use Rattle.packed.proofs.Packings.RoundTrip.{Lendable}
 use Rattle.packed.proofs.Kept.States.{by-states, states-are}
 use Rattle.packed.proofs.Kept.Back.{comes-back}
 

@@ -12,7 +12,7 @@ use Rattle.protocol.specs.Allowed.{allowed}
 use Rattle.protocol.specs.State.{State}
 use Rattle.protocol.specs.Outcome.{entry}
 use Rattle.protocol.specs.Command.{unknown, decode}
-use Rattle.protocol.specs.Step.{Answer as Meant, refused, done, carry}
+use Rattle.protocol.specs.Step.{Answer as ProtocolAnswer, refused, done, carry}
 use Rattle.protocol.specs.Memory.{Memory, stored}
 use Rattle.protocol.specs.Load.{load}
 use Rattle.protocol.specs.Run.{Ran, Execution, run}
@@ -51,7 +51,7 @@ module _
     starts =
         rw (good, stored-lengths F σ (fine .sized), records, stored-valid F S σ good (fine .sized) fit)
 
-    steps : (x : Command) (a : Meant) → carry F S σ x ≡ a → stepLent F S (unpackedOf K) x ≡ onAnswer F anyRoom (stored F σ) a
+    steps : (x : Command) (a : ProtocolAnswer) → carry F S σ x ≡ a → stepLent F S (unpackedOf K) x ≡ onAnswer F anyRoom (stored F σ) a
     unfolding onStart
     steps x a e =
         ap (λ (L : Memory). stepLent F S L x) held

@@ -31,7 +31,7 @@ use Rattle.page.proofs.Calls.Steps.{entry-most}
 use Rattle.report.specs.declared.Progress.{Progress}
 use Rattle.report.specs.Header.{Header, header}
 use Rattle.report.specs.Text.{outcomeLine, endLine}
-use Rattle.report.specs.Turn.{Turn, ends, told, carried, carryOut, turnOf, turns}
+use Rattle.report.specs.Turn.{Turn, lastTurn, answered, carried, carryOut, turnOf, turns}
 use Rattle.report.specs.Printed.{lineAfter}
 use Rattle.report.proofs.Turns.One.{One, nothing, stops, goes, one}
 use Rattle.report.proofs.Turns.Tests.{at-end, inside}
@@ -65,14 +65,14 @@ module _
     -- ONE TURN, where bytes are left
     none-ends : (p : Progress) (K : Kept) (e : Ending) → decodeAt s (p .at) ≡ Decoded.Unknown
         → runKept F S K (drop (p .at) s) (0 ∷ []) .ran .ending ≡ e
-        → carryOut s x p K ≡ ends p (runKept F S K (drop (p .at) s) (0 ∷ []) .kept) e
+        → carryOut s x p K ≡ lastTurn p (runKept F S K (drop (p .at) s) (0 ∷ []) .kept) e
     unfolding carried
     none-ends p K e d f =
-        ap (carried s x p K) d ∙ ap (ends p (runKept F S K (drop (p .at) s) (0 ∷ []) .kept)) f
+        ap (carried s x p K) d ∙ ap (lastTurn p (runKept F S K (drop (p .at) s) (0 ∷ []) .kept)) f
 
     refused-ends : (p : Progress) (K : Kept) (c : Command) (next : ℕ) (why : Refusal)
         → decodeAt s (p .at) ≡ Decoded.Is c next → stepKept F S K c .answer ≡ Answer.Refused why
-        → carryOut s x p K ≡ ends p (stepKept F S K c .kept) (Refused why)
+        → carryOut s x p K ≡ lastTurn p (stepKept F S K c .kept) (Refused why)
     unfolding carried told
     refused-ends p K c next why d f =
         ap (carried s x p K) d ∙ ap (told (F .n) next p (stepKept F S K c .kept)) f
@@ -108,7 +108,7 @@ module _
     step k p K t e = ap (worth k) e
 
     finish : (k d : ℕ) (e : Ending) (p : Progress) (K : Kept) (w : Execution) → p .done ≡ d → w .events ≡ []
-        → w .ending ≡ e → worth k (ends p K e) ≡ textOf d w
+        → w .ending ≡ e → worth k (lastTurn p K e) ≡ textOf d w
     finish k d e p K w a b c =
         append-nil (endLine (p .done) e)
         ∙ (λ i. concat (map (lineAfter (F .n)) (sym b i)) ++ endLine (sum i) (sym c i))
@@ -126,11 +126,11 @@ module _
         p = progress at d
 
         -- a turn that is the last
-        last-told : (why : Refusal) (z : Kept) → carryOut s x p K ≡ ends p z (Refused why)
+        last-told : (why : Refusal) (z : Kept) → carryOut s x p K ≡ lastTurn p z (Refused why)
             → full F S room σ rest ≡ stop σ (Refused why)
             → turns (suc k) s (header x) p K ≡ textOf d (full F S room σ rest)
         last-told why z e all =
-            step k p K (ends p z (Refused why)) (inside s p K x low few ∙ e)
+            step k p K (lastTurn p z (Refused why)) (inside s p K x low few ∙ e)
             ∙ finish k d (Refused why) p z (full F S room σ rest) refl (ap (λ (w : Execution). w .events) all)
             (ap (λ (w : Execution). w .ending) all)
 

@@ -26,7 +26,7 @@ use Rattle.report.specs.Header.{Parsed, refused, header, formIn, headerI
 use Rattle.report.specs.Text.{endLine}
 use Rattle.report.specs.Turn.{spaceOf, startOf, turnOf, turns}
 use Rattle.report.specs.Printed.{lineAfter, listing, printedOf}
-use Rattle.report.proofs.Laws.Headers.{Accepted, accepted}
+use Rattle.report.proofs.Parsing.Headers.{Accepted, accepted}
 use Rattle.report.proofs.Printed.Holds.{opened-holds}
 use Rattle.report.proofs.Printed.Turns.{rest-told}
 use Rattle.report.proofs.Printed.Full.{never-full}

@@ -35,8 +35,8 @@ use Rattle.report.specs.Header.{
 }
 use Rattle.report.specs.Found.{foundIn}
 use Rattle.report.specs.Text.{outcomeLine, OutcomeFits}
-use Rattle.report.specs.Turn.{startOf, ends, told, carried, carryOut}
-use Rattle.report.specs.Calls.{started, toldAll, toldFrom}
+use Rattle.report.specs.Turn.{startOf, lastTurn, answered, carried, carryOut}
+use Rattle.report.specs.Calls.{started, turnedBy, turnedFrom}
 use Rattle.report.proofs.Turns.Fits.{step-fits}
 
 -- WHAT THE CODE HANDS OVER
@@ -99,18 +99,18 @@ module _ (s : List ℕ) (p : Progress) (K : Kept) (f : Found) (t : f ≡ foundIn
   -- what is no command
   none-by : {y : RanKept}
       → y ≡ runKept (formOf bs (f .format)) recordsHere K restHere (0 ∷ []) → (d : Decoded) → IsNone d
-      → ends p (y .kept) (y .ran .ending) ≡ carried s (headerIn s) p K d
+      → lastTurn p (y .kept) (y .ran .ending) ≡ carried s (headerIn s) p K d
   unfolding carried
   none-by {y} q d =
       let e : y ≡ runKept (formIn s) (headerIn s .records) K (drop (p .at) s) (0 ∷ []) =
       q ∙ (λ i. runKept (form-is s f t b i) (records-are s f t i) K (rest-is i) (0 ∷ [])) in
-      let g = ap (λ (z : RanKept). ends p (z .kept) (z .ran .ending)) e in
-      no-command (λ d. ends p (y .kept) (y .ran .ending) ≡ carried s (headerIn s) p K d) g g d
+      let g = ap (λ (z : RanKept). lastTurn p (z .kept) (z .ran .ending)) e in
+      no-command (λ d. lastTurn p (y .kept) (y .ran .ending) ≡ carried s (headerIn s) p K d) g g d
 
-  pub ends-none : {y : RanKept} {d : Decoded}
+  pub last-none : {y : RanKept} {d : Decoded}
       → y ≡ runKept (formOf bs (f .format)) recordsHere K restHere (0 ∷ []) → d ≡ decodeAt s (p .at) → IsNone d
-      → ends p (y .kept) (y .ran .ending) ≡ carryOut s (headerIn s) p K
-  ends-none {y} {d} q e n = none-by q d n ∙ ap (carried s (headerIn s) p K) e
+      → lastTurn p (y .kept) (y .ran .ending) ≡ carryOut s (headerIn s) p K
+  last-none {y} {d} q e n = none-by q d n ∙ ap (carried s (headerIn s) p K) e
 
   -- a command
   module _ {c : Command} {next : ℕ} {d : Decoded} (e : d ≡ decodeAt s (p .at)) (is : d ≡ Decoded.Is c next)
@@ -124,10 +124,10 @@ module _ (s : List ℕ) (p : Progress) (K : Kept) (f : Found) (t : f ≡ foundIn
     same : y ≡ stepKept (formIn s) (headerIn s .records) K c
     same = q ∙ (λ i. stepKept (form-is s f t b i) (records-are s f t i) K c)
 
-    step-told : told n next p (y .kept) (y .answer) ≡ carryOut s (headerIn s) p K
+    step-answered : answered n next p (y .kept) (y .answer) ≡ carryOut s (headerIn s) p K
     unfolding carried
-    step-told =
-        ap (λ (z : SteppedKept). told n next p (z .kept) (z .answer)) same
+    step-answered =
+        ap (λ (z : SteppedKept). answered n next p (z .kept) (z .answer)) same
         ∙ ap (carried s (headerIn s) p K) (sym is ∙ e)
 
     -- what the code asks of the buffers
@@ -137,10 +137,10 @@ module _ (s : List ℕ) (p : Progress) (K : Kept) (f : Found) (t : f ≡ foundIn
         (subst (λ (z : SteppedKept). OutcomeFits n (z .kept .buffers) o) (sym same)
         (step-fits (formIn s) (headerIn s .records) K c o (ap (λ (z : SteppedKept). z .answer) (sym same) ∙ a)))
 
-    pub ends-refused : (why : Refusal) → y .answer ≡ Refused why
-        → ends p (y .kept) (Ending.Refused why) ≡ carryOut s (headerIn s) p K
-    unfolding told
-    ends-refused why a = sym (ap (told n next p (y .kept)) a) ∙ step-told
+    pub last-refused : (why : Refusal) → y .answer ≡ Refused why
+        → lastTurn p (y .kept) (Ending.Refused why) ≡ carryOut s (headerIn s) p K
+    unfolding answered
+    last-refused why a = sym (ap (answered n next p (y .kept)) a) ∙ step-answered
 
     abbrev textWith : ℕ → Outcome → List ℕ
     textWith k o = outcomeLine k (y .kept .buffers) o
@@ -148,21 +148,21 @@ module _ (s : List ℕ) (p : Progress) (K : Kept) (f : Found) (t : f ≡ foundIn
     pub goes-on :
         (line : List ℕ) (o : Outcome) {r : ℕ} {l : List ℕ} → y .answer ≡ Done o →
         added l r ≡ added (overlay line 0 (textWith (f .format .n) o)) (length (textWith (f .format .n) o)) →
-        toldAll (record {
+        turnedBy (record {
           written = r;
           last = false;
           progress = record { at = next; done = p .done + 1 };
           writer = y .kept .writer;
         }) (y .kept) l
-        ≡ toldFrom line (carryOut s (headerIn s) p K)
-    unfolding told
+        ≡ turnedFrom line (carryOut s (headerIn s) p K)
+    unfolding answered
     goes-on line o a g =
         let g′ = g ∙ ap (λ k. added (overlay line 0 (textWith k o)) (length (textWith k o))) size in
         (λ i.
-        toldAll (record {
+        turnedBy (record {
           written = g′ i .at;
           last = false;
           progress = record { at = next; done = p .done + 1 };
           writer = y .kept .writer;
         }) (y .kept) (g′ i .log))
-        ∙ ap (toldFrom line) (sym (ap (told n next p (y .kept)) a) ∙ step-told)
+        ∙ ap (turnedFrom line) (sym (ap (answered n next p (y .kept)) a) ∙ step-answered)

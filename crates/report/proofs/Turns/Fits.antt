@@ -10,7 +10,7 @@ use Rattle.protocol.specs.Lists.{concat}
 use Rattle.protocol.specs.Form.{Form}
 use Rattle.protocol.specs.State.{State}
 use Rattle.protocol.specs.Outcome.{entry}
-use Rattle.protocol.specs.Step.{Answer as Meant, refused, done, carry}
+use Rattle.protocol.specs.Step.{Answer as ProtocolAnswer, refused, done, carry}
 use Rattle.protocol.specs.Memory.{Memory, stored}
 use Rattle.protocol.specs.Load.{load}
 use Rattle.protocol.specs.declared.Command.{Command}
@@ -63,7 +63,7 @@ module _ (F : Form) (S : List ℕ) (L : Memory) (x : Command) where
       length-concat (F .n) (τ .buffers) (after .sized .each) ∙ ap (λ k. k * F .n) (after .sized .buffers) in
       fits-outcome (F .n) (F .readers) (concat (τ .buffers)) o (omega (arith, r .bytes)) size within
 
-  by-answer : Ready F S L → (a : Meant) → carry F S (load F L) x ≡ a → Fits F (onAnswer F anyRoom L a)
+  by-answer : Ready F S L → (a : ProtocolAnswer) → carry F S (load F L) x ≡ a → Fits F (onAnswer F anyRoom L a)
   unfolding onAnswer
   by-answer ready (refused why) e = λ o q. absurd (let z : _≡_ {A = ℕ} 0 1 = cc in omega arith)
   by-answer ready (done τ o) e =

@@ -15,21 +15,21 @@ use Rattle.codec.proofs.Next.{Says, decoded}
 use Rattle.page.specs.declared.Answer.{Answer}
 use Rattle.packed.specs.Kept.{Kept, runKept, stepKept}
 use Rattle.report.specs.declared.Progress.{Progress}
-use Rattle.report.specs.declared.Told.{Told}
+use Rattle.report.specs.declared.Turned.{Turned}
 use Rattle.report.specs.Header.{Parsed, refused, header, Header}
-use Rattle.report.specs.Turn.{Turn, ends, told, noCommand, carried, turnOf}
-use Rattle.report.specs.Calls.{ToldKept, toldAll, toldFrom}
+use Rattle.report.specs.Turn.{Turn, lastTurn, answered, noCommand, carried, turnOf}
+use Rattle.report.specs.Calls.{TurnedKept, turnedBy, turnedFrom}
 
 abbrev Forward : List ℕ → Progress → Turn → Type 0
 Forward s p t = t .last ≡ false → (p .at < t .progress .at) × (t .progress .at ≤ length s)
 
 module _ (s : List ℕ) (p : Progress) (K : Kept) where
-  last-turn : (z : Kept) (e : Ending) → Forward s p (ends p z e)
+  last-turn : (z : Kept) (e : Ending) → Forward s p (lastTurn p z e)
   last-turn z e q = absurd (let n : _≡_ {A = ℕ} 0 1 = cc in omega arith)
 
   by-answer :
-      (n next : ℕ) (z : Kept) → (p .at < next) × (next ≤ length s) → (a : Answer) → Forward s p (told n next p z a)
-  unfolding told
+      (n next : ℕ) (z : Kept) → (p .at < next) × (next ≤ length s) → (a : Answer) → Forward s p (answered n next p z a)
+  unfolding answered
   by-answer n next z h (Answer.Refused why) = last-turn z (Ending.Refused why)
   by-answer n next z h (Answer.Done o) = λ e. h
 
@@ -55,17 +55,17 @@ module _ (s : List ℕ) (p : Progress) (K : Kept) where
       (λ r. by-decoded x (decodeAt s (p .at)) (decoded s (p .at) refl)))
 
   -- the same of the call's answer
-  pub told-bounds :
-      (line : List ℕ) (x : Parsed) {r : Told} {z : Kept} {l : List ℕ} →
-      toldAll r z l ≡ toldFrom line (turnOf s p K x) →
+  pub turned-bounds :
+      (line : List ℕ) (x : Parsed) {r : Turned} {z : Kept} {l : List ℕ} →
+      turnedBy r z l ≡ turnedFrom line (turnOf s p K x) →
       (r .last ≡ false → (p .at < r .progress .at) × (r .progress .at ≤ length s)) × (r .written ≤ length l)
-  told-bounds line x {r} {z} {l} e =
+  turned-bounds line x {r} {z} {l} e =
       let t = turnOf s p K x in
-      let last = ap (λ (y : ToldKept). y .told .last) e in
-      let at : r .progress .at ≡ t .progress .at = ap (λ (y : ToldKept). y .told .progress .at) e in
-      let wide : r .written ≡ length (t .text) = ap (λ (y : ToldKept). y .told .written) e in
+      let last = ap (λ (y : TurnedKept). y .turned .last) e in
+      let at : r .progress .at ≡ t .progress .at = ap (λ (y : TurnedKept). y .turned .progress .at) e in
+      let wide : r .written ≡ length (t .text) = ap (λ (y : TurnedKept). y .turned .written) e in
       let long : length l ≡ length (t .text ++ drop (0 + length (t .text)) line) =
-      ap (λ (y : ToldKept). length (y .line)) e
+      ap (λ (y : TurnedKept). length (y .line)) e
       in (
         (λ q.
             let (low, high) = turn-forward x (sym last ∙ q) in

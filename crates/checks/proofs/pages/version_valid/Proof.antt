@@ -4,7 +4,7 @@ use mathlib.Core.Path.{_≡_}
 use Prim.Native.Nat.{_+_, _-_, _≤_}
 use native.Mathlib.Omega.{arith}
 use lib.ListN.{length-replicate}
-use Rattle.radix.proofs.Laws.Places.{take-replicate}
+use Rattle.radix.proofs.Numbers.Places.{take-replicate}
 use Rattle.protocol.proofs.InRange.{in-range}
 use Rattle.checks.proofs.pages.version_valid.Statement.{statement}
 use Rattle.checks.proofs.pages.version_valid.Tie as tie

@@ -6,7 +6,7 @@ use mathlib.Core.Logic.{⊎-elim}
 use Prim.Native.Nat.{_<_}
 use native.Mathlib.Omega.{arith}
 use lib.ListN.{length, take, replicate, length-replicate}
-use Rattle.radix.proofs.Laws.Places.{take-replicate}
+use Rattle.radix.proofs.Numbers.Places.{take-replicate}
 use Rattle.protocol.specs.Form.{Form, formOf, versionBases, recordSteps}
 use Rattle.protocol.specs.Allowed.{versionDigits}
 use Rattle.checks.proofs.Small.{small-bounds, is-small}

@@ -12,7 +12,7 @@ use Rattle.protocol.specs.State.{opened}
 use Rattle.codec.specs.Entry.{overlay}
 use Rattle.checks.proofs.Small.{of-small}
 use Rattle.checks.proofs.Forms.{good-counts}
-use Rattle.fresh.proofs.Laws.Filled.{zero-digits, whole-digits, once, twice, both-written, second-length, filled}
+use Rattle.fresh.proofs.Openings.Filled.{zero-digits, whole-digits, once, twice, both-written, second-length, filled}
 use Rattle.fresh.proofs.filling.fill_page.Statement.{statement}
 use Rattle.fresh.proofs.filling.fill_page.Tie as tie
 

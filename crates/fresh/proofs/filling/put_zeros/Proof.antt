@@ -1,6 +1,6 @@
 -- The zeros are put into a part of what is lent.
 use borrow.Author.Needs.{needs}
-use Rattle.fresh.proofs.Laws.Filled.{zeros-over}
+use Rattle.fresh.proofs.Openings.Filled.{zeros-over}
 use Rattle.fresh.proofs.filling.put_zeros.Statement.{statement}
 use Rattle.fresh.proofs.filling.put_zeros.Tie as tie
 

@@ -15,8 +15,8 @@ use Rattle.checks.specs.Start.{openingOf}
 use Rattle.checks.proofs.Opening.{openingIn, opens}
 use Rattle.fresh.specs.Opening.{pageLength}
 use Rattle.fresh.specs.Opening.{lent}
-use Rattle.fresh.proofs.Laws.Endings.{is-finished}
-use Rattle.fresh.proofs.Laws.Opens.{refused-open, done-open}
+use Rattle.fresh.proofs.Openings.Endings.{is-finished}
+use Rattle.fresh.proofs.Openings.Opens.{refused-open, done-open}
 use Rattle.fresh.proofs.opening.open_page.Statement.{statement}
 use Rattle.fresh.proofs.opening.open_page.Tie as tie
 

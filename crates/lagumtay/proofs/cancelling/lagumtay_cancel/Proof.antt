@@ -48,7 +48,7 @@ use Rattle.page.specs.Calls.{endedLent, cancelLent}
 use Rattle.page.proofs.Walks.Rules.Flat.{_&_}
 use Rattle.page.proofs.Walks.Rules.Locals.{Slot, has, spread, wide, enters, leaves, arg}
 use Rattle.page.proofs.Walks.Rules.Again.{lends-on}
-use Rattle.lagumtay.proofs.Laws.Cancels.{cancelled}
+use Rattle.lagumtay.proofs.Answers.Cancels.{cancelled}
 use Rattle.lagumtay.proofs.Walks.Lent.{the, lent-on, in-order, format, page, writer, readers, buffers, form}
 use Rattle.lagumtay.proofs.Walks.Lent.{memory, vals, params, held, loaded, handed, handed-vals}
 use Rattle.lagumtay.proofs.Walks.Loads.{loads-shr}

@@ -57,7 +57,7 @@ use Rattle.fresh.specs.Opening.{openedLent, openLent}
 use Rattle.page.proofs.Walks.Rules.Flat.{_&_}
 use Rattle.page.proofs.Walks.Rules.Locals.{Slot, has, spread, wide, enters, leaves, arg}
 use Rattle.page.proofs.Walks.Rules.Again.{lends-on}
-use Rattle.lagumtay.proofs.Laws.Opens.{opened-left}
+use Rattle.lagumtay.proofs.Answers.Opens.{opened-left}
 use Rattle.lagumtay.proofs.Walks.Lent.{the, in-order, format, writer, form, memory, vals, params, held}
 use Rattle.lagumtay.proofs.Walks.Lent.{loaded, all-lent-on, handed, handed-vals, last-readers, last-page}
 use Rattle.lagumtay.proofs.Walks.Lent.{last-buffers, memory-after}

@@ -56,14 +56,14 @@ use Rattle.page.proofs.run as g
 use Rattle.page.proofs.run.Symbol as run-def
 use Rattle.page.proofs.run.Symbol.{name as #page·run}
 use Rattle.page.proofs.run.Met as run-thm
-use Rattle.lagumtay.specs.Run.{toldOf}
+use Rattle.lagumtay.specs.Run.{returnedOf}
 use Rattle.lagumtay.specs.declared.running.Answer.{Answer}
-use Rattle.lagumtay.specs.declared.running.Told.{Told}
+use Rattle.lagumtay.specs.declared.running.Returned.{Returned}
 use Rattle.lagumtay.proofs.running.Answer as TA
 use Rattle.lagumtay.proofs.running.Answer.Laws as TA′
-use Rattle.lagumtay.proofs.running.Told as TT
-use Rattle.lagumtay.proofs.running.Told.Laws as TT′
-use Rattle.lagumtay.proofs.Laws.Runs.{told-run}
+use Rattle.lagumtay.proofs.running.Returned as TT
+use Rattle.lagumtay.proofs.running.Returned.Laws as TT′
+use Rattle.lagumtay.proofs.Answers.Runs.{returned-run}
 use Rattle.lagumtay.proofs.Walks.Lent.{the, spot, in-order, format, writer, form, memory, vals, params, held}
 use Rattle.lagumtay.proofs.Walks.Lent.{loaded, lent-on, all-lent-on, handed, handed-vals, last-readers, last-page}
 use Rattle.lagumtay.proofs.Walks.Lent.{last-buffers, memory-after}
@@ -71,10 +71,10 @@ use Rattle.lagumtay.proofs.Walks.Loads.{loads-shr, loads-mut}
 use Rattle.lagumtay.proofs.Walks.Stores.{Mut, stores-mut}
 use Rattle.lagumtay.proofs.Walks.Apart.{tokens, apart, together, as-long}
 use Rattle.lagumtay.proofs.Walks.Facts.{both, calls-plain}
-use Rattle.lagumtay.proofs.running.tell as h
-use Rattle.lagumtay.proofs.running.tell.Symbol as tell-def
-use Rattle.lagumtay.proofs.running.tell.Symbol.{name as #lagumtay·tell}
-use Rattle.lagumtay.proofs.running.tell.Met as tell-thm
+use Rattle.lagumtay.proofs.running.returned as h
+use Rattle.lagumtay.proofs.running.returned.Symbol as returned-def
+use Rattle.lagumtay.proofs.running.returned.Symbol.{name as #lagumtay·returned}
+use Rattle.lagumtay.proofs.running.returned.Met as returned-thm
 use Rattle.lagumtay.proofs.running.lagumtay_run.Key.{name as #lagumtay·lagumtay-run}
 use Rattle.lagumtay.proofs.running.lagumtay_run as f
 use Rattle.lagumtay.proofs.running.lagumtay_run.Statement as stated
@@ -95,7 +95,7 @@ abbrev Known : {M : Type 1} (𝓤 : URA M) (H : Heap 𝓤) (A : Atoms 𝓤) (mem
     → Calls 𝓤 H → Type 1
 Known 𝓤 H A mem run C =
     Triple 𝓤 (C #page·run) (tripleOf 𝓤 H A g.signature (g.spec 𝓤 H A mem run))
-    × Triple 𝓤 (C #lagumtay·tell) (tripleOf 𝓤 H A h.signature (h.spec 𝓤 H A mem run))
+    × Triple 𝓤 (C #lagumtay·returned) (tripleOf 𝓤 H A h.signature (h.spec 𝓤 H A mem run))
 
 module _ {M : Type 1} (𝓤 : URA M) (H : Heap 𝓤) (A : Atoms 𝓤) (W : Given 𝓤 H A) (mem : Memory → SProp 𝓤)
     (run : Routine → Fun 𝓤) (κs : Lfts 10) (qs : Shares 10) (a : Args f.signature κs) where
@@ -146,7 +146,7 @@ module _ {M : Type 1} (𝓤 : URA M) (H : Heap 𝓤) (A : Atoms 𝓤) (W : Given
   Carried = Carries (form a) (records .now) (memory a) (record { given = commands .now; log = log .now })
 
   -- what stands once the writer and the answer that were told are stored
-  abbrev Ended : Told → Lasting → List (Item 𝓤)
+  abbrev Ended : Returned → Lasting → List (Item 𝓤)
   Ended t ls =
       ‵ (Mut TA.the-type (κs .1 .1 .1 .1 .1 .1 .1 .1 .1 .0) (at-last answer (t .answer))) ∷
       ‵ (flft (κs .1 .1 .1 .1 .1 .1 .1 .1 .1 .0) (qs .1 .1 .1 .1 .1 .1 .1 .1 .1 .0)) ∷
@@ -154,7 +154,7 @@ module _ {M : Type 1} (𝓤 : URA M) (H : Heap 𝓤) (A : Atoms 𝓤) (W : Given
       ‵ (flft (κs .1 .1 .1 .0) (qs .1 .1 .1 .0)) ∷ ‵ (tokens 7 λs ps) ∷ ‵ (lasts g.ended λs b ls) ∷
       ‵ (flft (κs .0) (qs .0)) ∷ []
 
-  exits : (r : Ran) (ls : Lasting) (t : Told) → Says r ls × Carried → t ≡ toldOf r →
+  exits : (r : Ran) (ls : Lasting) (t : Returned) → Says r ls × Carried → t ≡ returnedOf r →
       Is u8 (t .refusal) (vint w8 (t .refusal) ∷ []) →
       ent 𝓤 (⋆ 𝓤 H A (Ended t ls)) (Post (vint w8 (t .refusal)))
   exits r ls t said told is =
@@ -164,7 +164,7 @@ module _ {M : Type 1} (𝓤 : URA M) (H : Heap 𝓤) (A : Atoms 𝓤) (W : Given
       (vint w8 (t .refusal)) (t .refusal)
       (tt & tt & last-page ls & t .writer & last-readers ls & last-buffers ls & tt & tt & last-log ls & t .answer & tt)
       (tt & tt & lp & tt & lr & lb & tt & tt & ll & tt & tt)) $
-      says-both ! (told-run _ _ _ _ _ r t (last-page ls) (last-readers ls) (last-buffers ls) (last-log ls) told
+      says-both ! (returned-run _ _ _ _ _ r t (last-page ls) (last-readers ls) (last-buffers ls) (last-log ls) told
       (said .0)) (said .1) $
       -- [the last readers; none; none; the last page; none; the last buffers; none; none; the last log; the answer;
       -- token 9; the writer; token 3; the tokens; token 0]
@@ -175,7 +175,7 @@ module _ {M : Type 1} (𝓤 : URA M) (H : Heap 𝓤) (A : Atoms 𝓤) (W : Given
   module _ (are : Are (typesAt (f.signature .params) κs) (Ises (typesAt (f.signature .params) κs)) a vs) (C : Calls 𝓤 H)
       (Λ : Loops 𝓤 H) (fm : FmC 𝓤 H (W .laws) C) (known : Known 𝓤 H A mem run C) where
     -- what the locals hold at the end
-    abbrev Held : Val → Told → List Slot
+    abbrev Held : Val → Returned → List Slot
     Held v t =
         has (vint w8 (t .refusal)) ∷ held a (has (the records) ∷ has (the commands) ∷ has (the log) ∷
         has (spot answer) ∷ loaded a (has v ∷ has (LL.val TT.the-type TT′.the-laws t) ∷
@@ -220,7 +220,7 @@ module _ {M : Type 1} (𝓤 : URA M) (H : Heap 𝓤) (A : Atoms 𝓤) (W : Given
         owned ! TR.the-row (Is TR.the-row) (LL.makes TR.the-type TR′.the-plain 𝓤 H A) r (v ∷ []) r-is $
         together ! 1 _ $ nothing ! $ join ! $
         calls-plain ! fm h.ended (h.clauses 𝓤 H A mem run) (known .1) (tt, tt, tt, (r, tt), (v ∷ [], tt)) tt (id⊢ 𝓤 _)
-        (id⊢ 𝓤 _) (arg ! 21 refl (no-more !)) (λ t _. t ≡ toldOf r) (λ _ _. id⊢ 𝓤 _) (λ w t _ t-is told.
+        (id⊢ 𝓤 _) (arg ! 21 refl (no-more !)) (λ t _. t ≡ returnedOf r) (λ _ _. id⊢ 𝓤 _) (λ w t _ t-is told.
         let is = LL.owed TT.the-type TT′.the-laws t (w ∷ []) t-is in
         drop ! $ drop ! $ land ! (from ! (stop !)) (init ! 21 refl
         (LL.lawful TT.the-type TT′.the-laws 𝓤 H A W .typed t (w ∷ []) t-is .0)) $
@@ -279,5 +279,5 @@ lagumtay-run-spec 𝓤 H 𝓜 𝓖 𝓡 =
     (code.unfolded 𝓤 H 𝓜 𝓡)
     (meets 𝓤 H (𝓖 .A) (givenOf 𝓤 H 𝓜 𝓖) (𝓜 .mem) (𝓡 .run) (tablesOf 𝓤 H 𝓜 (tables 𝓤 H 𝓜 𝓡 code.env))
     (cited 𝓤 H _ 𝓜 𝓡 code.env #page·run run-def.routine code.calls-page·run (run-thm.met 𝓤 H 𝓜 𝓖 𝓡) &
-    cited 𝓤 H _ 𝓜 𝓡 code.env #lagumtay·tell tell-def.routine code.calls-lagumtay·running·tell
-    (tell-thm.met 𝓤 H 𝓜 𝓖 𝓡)))
+    cited 𝓤 H _ 𝓜 𝓡 code.env #lagumtay·returned returned-def.routine code.calls-lagumtay·running·returned
+    (returned-thm.met 𝓤 H 𝓜 𝓖 𝓡)))

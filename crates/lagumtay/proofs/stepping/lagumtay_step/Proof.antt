@@ -63,15 +63,15 @@ use Rattle.page.proofs.step.Symbol.{name as #page·step}
 use Rattle.page.proofs.step.Met as step-thm
 use Rattle.lagumtay.specs.Step.{commandOf, endedOf}
 use Rattle.lagumtay.specs.declared.stepping.Order.{Order}
-use Rattle.lagumtay.specs.declared.stepping.Told.{Told}
+use Rattle.lagumtay.specs.declared.stepping.Entry.{Entry}
 use Rattle.lagumtay.specs.declared.stepping.Ended.{Ended as End}
 use Rattle.lagumtay.proofs.stepping.Order as TO
 use Rattle.lagumtay.proofs.stepping.Order.Laws as TO′
-use Rattle.lagumtay.proofs.stepping.Told as TT
-use Rattle.lagumtay.proofs.stepping.Told.Laws as TT′
+use Rattle.lagumtay.proofs.stepping.Entry as TT
+use Rattle.lagumtay.proofs.stepping.Entry.Laws as TT′
 use Rattle.lagumtay.proofs.stepping.Ended as TE
 use Rattle.lagumtay.proofs.stepping.Ended.Laws as TE′
-use Rattle.lagumtay.proofs.Laws.Steps.{told-step}
+use Rattle.lagumtay.proofs.Answers.Steps.{returned-step}
 use Rattle.lagumtay.proofs.Walks.Lent.{the, spot, in-order, format, writer, form, memory, vals, params, held}
 use Rattle.lagumtay.proofs.Walks.Lent.{loaded, all-lent-on, handed, handed-vals, last-readers, last-page}
 use Rattle.lagumtay.proofs.Walks.Lent.{last-buffers}
@@ -118,7 +118,7 @@ module _ {M : Type 1} (𝓤 : URA M) (H : Heap 𝓤) (A : Atoms 𝓤) (W : Given
   abbrev order : RefT Order
   order = a .1 .1 .1 .1 .1 .1 .1 .0
 
-  abbrev outcome : RefT Told
+  abbrev outcome : RefT Entry
   outcome = a .1 .1 .1 .1 .1 .1 .1 .1 .0
 
   abbrev vs : Vals f.signature κs
@@ -157,7 +157,7 @@ module _ {M : Type 1} (𝓤 : URA M) (H : Heap 𝓤) (A : Atoms 𝓤) (W : Given
   -- what stands once the writer and the outcome that were told are stored
   abbrev Ended : End → Lasting → List (Item 𝓤)
   Ended e ls =
-      ‵ (Mut TT.the-type (κs .1 .1 .1 .1 .1 .1 .1 .1 .0) (at-last outcome (e .told))) ∷
+      ‵ (Mut TT.the-type (κs .1 .1 .1 .1 .1 .1 .1 .1 .0) (at-last outcome (e .outcome))) ∷
       ‵ (flft (κs .1 .1 .1 .1 .1 .1 .1 .1 .0) (qs .1 .1 .1 .1 .1 .1 .1 .1 .0)) ∷
       ‵ (Mut TW.the-type (κs .1 .1 .1 .0) (at-last (writer a) (e .writer))) ∷
       ‵ (flft (κs .1 .1 .1 .0) (qs .1 .1 .1 .0)) ∷ ‵ (tokens 5 λs ps) ∷ ‵ (lasts g.ended λs b ls) ∷
@@ -171,9 +171,9 @@ module _ {M : Type 1} (𝓤 : URA M) (H : Heap 𝓤) (A : Atoms 𝓤) (W : Given
       as-long ! 0 refl (λ lr. as-long ! 3 refl (λ lp. as-long ! 5 refl (λ lb.
       suffices ! _ (ends-at 𝓤 H A f.ended stayed (f.clauses 𝓤 H A mem run) W ((κs, qs, tt, a, vs), tt)
       (vint w8 (e .refusal)) (e .refusal)
-      (tt & tt & last-page ls & e .writer & last-readers ls & last-buffers ls & tt & tt & e .told & tt)
+      (tt & tt & last-page ls & e .writer & last-readers ls & last-buffers ls & tt & tt & e .outcome & tt)
       (tt & tt & lp & tt & lr & lb & tt & tt & tt & tt)) $
-      says-both ! (told-step _ _ _ (order .now) s (last-page ls) (last-readers ls) (last-buffers ls) (said .0) e told)
+      says-both ! (returned-step _ _ _ (order .now) s (last-page ls) (last-readers ls) (last-buffers ls) (said .0) e told)
       (λ known. said .1) $
       -- [the last readers; none; none; the last page; none; the last buffers; none; none; the outcome; token 8; the
       -- writer; token 3; the tokens; token 7; token 0]
@@ -250,7 +250,7 @@ module _ {M : Type 1} (𝓤 : URA M) (H : Heap 𝓤) (A : Atoms 𝓤) (W : Given
         stores-mut ! TW.the-type TW′.the-laws TW′.the-plain (writer a) (e .writer) 10 refl (is .1 .1 .0)
         (of-opd ! (load ! (from ! (fld ! refl (stop !))) (look-in ! 23 (sub ! 2 refl (whole !))))) $
         move ! (2 ∷ 3 ∷ []) $
-        stores-mut ! TT.the-type TT′.the-laws TT′.the-plain outcome (e .told) 15 refl (is .1 .0)
+        stores-mut ! TT.the-type TT′.the-laws TT′.the-plain outcome (e .outcome) 15 refl (is .1 .0)
         (of-opd ! (load ! (from ! (fld ! refl (stop !))) (look-in ! 23 (sub ! 1 refl (whole !))))) $
         assigns ! (of-opd ! (load ! (from ! (fld ! refl (stop !))) (look-in ! 23 (sub ! 0 refl (whole !)))))
         (from ! (stop !)) (init ! 8 refl (tt, record { fits = is .0 .1 })) $

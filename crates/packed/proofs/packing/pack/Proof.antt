@@ -56,8 +56,8 @@ use Rattle.codec.proofs.pack.Symbol as g-def
 use Rattle.codec.proofs.pack.Symbol.{name as #pack-one}
 use Rattle.codec.proofs.pack.Met as g-thm
 use Rattle.page.specs.Carry.{idleReader}
-use Rattle.packed.proofs.Laws.Packs.{Whole, packTo, none-packed, packs-on, packTo-size, packs-all, one-more}
-use Rattle.packed.proofs.Laws.Packs.{states, ended, states-fit, states-most}
+use Rattle.packed.proofs.Packings.Packs.{Whole, packTo, none-packed, packs-on, packTo-size, packs-all, one-more}
+use Rattle.packed.proofs.Packings.Packs.{states, ended, states-fit, states-most}
 use Rattle.page.proofs.Walks.Rules.After.{after}
 use Rattle.page.proofs.Walks.Rules.Flat.{_&_}
 use Rattle.page.proofs.Walks.Rules.Upto as count

@@ -54,8 +54,8 @@ use Rattle.codec.proofs.unpack.Symbol as g-def
 use Rattle.codec.proofs.unpack.Symbol.{name as #unpack-one}
 use Rattle.codec.proofs.unpack.Met as g-thm
 use Rattle.page.specs.Carry.{idleReader}
-use Rattle.packed.proofs.Laws.Packs.{unpackTo, none-unpacked, unpackTo-length, unpacks-on, unpacks-all}
-use Rattle.packed.proofs.Laws.Packs.{states, ended, states-fit, states-most}
+use Rattle.packed.proofs.Packings.Packs.{unpackTo, none-unpacked, unpackTo-length, unpacks-on, unpacks-all}
+use Rattle.packed.proofs.Packings.Packs.{states, ended, states-fit, states-most}
 use Rattle.page.proofs.Walks.Rules.After.{after}
 use Rattle.page.proofs.Walks.Rules.Flat.{_&_}
 use Rattle.page.proofs.Walks.Rules.Upto as count

@@ -61,7 +61,7 @@ use Rattle.page.specs.Calls.{ranLent, runLent, Carries}
 use Rattle.packed.specs.Kept.{Kept as Keeps, kept, statesOf, ranKept, runKept}
 use Rattle.page.proofs.Ran as TR
 use Rattle.page.proofs.Ran.Laws as TR′
-use Rattle.packed.proofs.Laws.Packs.{unpacked-length}
+use Rattle.packed.proofs.Packings.Packs.{unpacked-length}
 use Rattle.packed.proofs.Kept.States.{states-most, unpacks}
 use Rattle.packed.proofs.Kept.Runs.{run-kept}
 use Rattle.page.proofs.Walks.Rules.Flat.{_&_}

@@ -23,8 +23,8 @@ slice-aggregate-run-2 c = search needs
 run-requires : tie.Need-run-requires
 run-requires c κs = search needs
 
-told-requires : tie.Need-told-requires
-told-requires c κs = search needs
+step-of-run-requires : tie.Need-step-of-run-requires
+step-of-run-requires c κs = search needs
 
 same-length : tie.Need-same-length
 same-length c = search needs
@@ -43,7 +43,7 @@ returns c =
     let F : Form = formOf (s .args .bases .now) (s .args .format) in
     let S : List ℕ = s .args .records .now in
     let K : Kept = kept (s .args .page .now) (s .args .writer) (s .args .states .now) (s .args .buffers .now) in
-    rw (c .told .ensures)
+    rw (c .step-of-run .ensures)
     (step-kept F S K (s .args .x) (command-range (s .args .x) _ (s .good .1 .1 .1 .1 .1 .1 .1 .0))
     (r .run .ensures ∙ ap (λ (l : List ℕ). runKept F S K l (replicate 10 0)) (e .encode .ensures)))
 
@@ -55,7 +55,7 @@ step-spec =
     slice-aggregate-run
     slice-aggregate-run-2
     run-requires
-    told-requires
+    step-of-run-requires
     same-length
     same-length-2
     same-length-3

@@ -51,7 +51,7 @@ use Rattle.page.specs.Start.{refusing}
 use Rattle.fresh.specs.Opening.{openedLent, openLent, openedReaders}
 use Rattle.fresh.proofs.Opened as TO
 use Rattle.fresh.proofs.Opened.Laws as TO′
-use Rattle.fresh.proofs.Laws.Endings.{cleared, stayed as as-lent}
+use Rattle.fresh.proofs.Openings.Endings.{cleared, stayed as as-lent}
 use Rattle.page.proofs.Walks.Rules.Flat.{_&_}
 use Rattle.page.proofs.Walks.Rules.Tests.{holds-true, holds-false}
 use Rattle.page.proofs.Walks.Rules.Kept.{Own}

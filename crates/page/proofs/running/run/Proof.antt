@@ -59,7 +59,7 @@ use Rattle.page.specs.Start.{refusing, startFrom}
 use Rattle.page.specs.Calls.{ranLent, runLent, refusedRan}
 use Rattle.page.proofs.Ran as TR
 use Rattle.page.proofs.Ran.Laws as TR′
-use Rattle.fresh.proofs.Laws.Endings.{is-finished}
+use Rattle.fresh.proofs.Openings.Endings.{is-finished}
 use Rattle.page.proofs.Calls.Starts.{start-is}
 use Rattle.page.proofs.Calls.Begun.{begins, run-refused}
 use Rattle.page.proofs.Calls.Carries.{carries}

@@ -84,10 +84,10 @@ use Rattle.page.proofs.running.run as h
 use Rattle.page.proofs.running.run.Symbol as h-def
 use Rattle.page.proofs.running.run.Symbol.{name as #run}
 use Rattle.page.proofs.running.run.Met as h-thm
-use Rattle.page.proofs.stepping.told as k
-use Rattle.page.proofs.stepping.told.Symbol as k-def
-use Rattle.page.proofs.stepping.told.Symbol.{name as #told}
-use Rattle.page.proofs.stepping.told.Met as k-thm
+use Rattle.page.proofs.stepping.step_of_run as k
+use Rattle.page.proofs.stepping.step_of_run.Symbol as k-def
+use Rattle.page.proofs.stepping.step_of_run.Symbol.{name as #step-of-run}
+use Rattle.page.proofs.stepping.step_of_run.Met as k-thm
 use Rattle.page.proofs.stepping.step.Key.{name as #step}
 use Rattle.page.proofs.stepping.step as f
 use Rattle.page.proofs.stepping.step.Statement as stated
@@ -240,7 +240,7 @@ module _ {M : Type 1} (𝓤 : URA M) (H : Heap 𝓤) (A : Atoms 𝓤) (W : Given
 
     module _ (are : Are (typesAt (f.signature .params) κs) (Ises (typesAt (f.signature .params) κs)) a vs) (C : Calls 𝓤 H)
         (Λ : Loops 𝓤 H) (fm : FmC 𝓤 H (W .laws) C) (known-encode : Triple 𝓤 (C #encode) Encodes)
-        (known-run : Triple 𝓤 (C #run) Runs) (known-tells : Triple 𝓤 (C #told) Tells) where
+        (known-run : Triple 𝓤 (C #run) Runs) (known-tells : Triple 𝓤 (C #step-of-run) Tells) where
       abbrev room : Room R (length (rs .now))
       room = are .0 .0 .1
 
@@ -354,7 +354,7 @@ module _ {M : Type 1} (𝓤 : URA M) (H : Heap 𝓤) (A : Atoms 𝓤) (W : Given
           say))))))))
 
   walks : (C : Calls 𝓤 H) (Λ : Loops 𝓤 H) → FmC 𝓤 H (W .laws) C → Triple 𝓤 (C #encode) Encodes →
-      Triple 𝓤 (C #run) Runs → Triple 𝓤 (C #told) Tells
+      Triple 𝓤 (C #run) Runs → Triple 𝓤 (C #step-of-run) Tells
       → Walks 𝓤 H A f.ended stays (WpFn 𝓤 H C Λ code.function) (f.clauses 𝓤 H A mem run)
   walks C Λ fm known-encode known-run known-tells =
       walked 𝓤 H A f.ended stays (f.clauses 𝓤 H A mem run) (WpFn 𝓤 H C Λ code.function)
@@ -368,7 +368,7 @@ module _ {M : Type 1} (𝓤 : URA M) (H : Heap 𝓤) (A : Atoms 𝓤) (W : Given
       (walk κs qs a are C Λ fm known-encode known-run known-tells))
 
   meets : (𝓣 : Tables 𝓤 H) → Triple 𝓤 (𝓣 .C #encode) Encodes → Triple 𝓤 (𝓣 .C #run) Runs →
-      Triple 𝓤 (𝓣 .C #told) Tells
+      Triple 𝓤 (𝓣 .C #step-of-run) Tells
       → Meets 𝓤 H A f.signature (WpFn 𝓤 H (𝓣 .C) (𝓣 .Λ) code.function) (f.spec 𝓤 H A mem run)
   meets 𝓣 known-encode known-run known-tells =
       walk-meets 𝓤 H A f.ended stays W (all-go 𝓤 H A W (f.ended .signature .params) (f.ended .kept))
@@ -385,5 +385,5 @@ step-spec 𝓤 H 𝓜 𝓖 𝓡 =
     code.calls-codec·encode (g-thm.met 𝓤 H 𝓜 𝓖 𝓡))
     (cited 𝓤 H (Runs 𝓤 H (𝓖 .A) (givenOf 𝓤 H 𝓜 𝓖) (𝓜 .mem) (𝓡 .run)) 𝓜 𝓡 code.env #run h-def.routine
     code.calls-page·running·run (h-thm.met 𝓤 H 𝓜 𝓖 𝓡))
-    (cited 𝓤 H (Tells 𝓤 H (𝓖 .A) (givenOf 𝓤 H 𝓜 𝓖) (𝓜 .mem) (𝓡 .run)) 𝓜 𝓡 code.env #told k-def.routine
-    code.calls-page·stepping·told (k-thm.met 𝓤 H 𝓜 𝓖 𝓡)))
+    (cited 𝓤 H (Tells 𝓤 H (𝓖 .A) (givenOf 𝓤 H 𝓜 𝓖) (𝓜 .mem) (𝓡 .run)) 𝓜 𝓡 code.env #step-of-run k-def.routine
+    code.calls-page·stepping·step-of-run (k-thm.met 𝓤 H 𝓜 𝓖 𝓡)))

@@ -24,8 +24,8 @@ size n = n .record-steps .ensures
     ∙ of-small (form (n .before .before .before .before .before .before)) _
     (n .before .before .before .before .before .before .pre .0 .good)
 
-content-put-requires : tie.Need-content-put-requires
-content-put-requires c κs =
+content-store-requires : tie.Need-content-store-requires
+content-store-requires c κs =
     let s = c .before .before .before .before in
     let a = s .args in
     let r = record-steps (form s) (a .records .now) (a .page .now) (a .p .writer) (s .pre .0) (s .pre .2) in
@@ -36,7 +36,7 @@ slice-write-page c =
     let s = c .before .before .before .before .before in
     let a = s .args in
     record-onto (form s) (a .records .now) (a .page .now) (a .p .writer) (s .pre .0) (s .pre .2)
-    (c .content-put .ensures)
+    (c .content-store .ensures)
 
 record-steps-requires : tie.Need-record-steps-requires
 record-steps-requires c κs = search needs
@@ -59,7 +59,7 @@ returns c =
     let a = s .args in
     let e = rw (size n) at (c .onward .ensures) in (
       stepped-record (form s) (a .records .now) (a .page .now) (a .p .writer) (s .pre .0 .kept) (s .pre .2)
-          (p .content-put .ensures) e,
+          (p .content-store .ensures) e,
       rw e (advanced-knows (form s) (a .p .writer) _ (a .p .known) (a .p .ink) (λ k. s .pre .1 k (busy s))),
     )
 
@@ -67,7 +67,7 @@ pub step-content-spec : {M : Type 1} → statement M
 step-content-spec =
     tie.close
     (tie.spec
-    content-put-requires
+    content-store-requires
     slice-write-page
     record-steps-requires
     onward-requires

@@ -23,8 +23,8 @@ ink-requires c κs =
     let a = s .args in
     (writable (form s) (a .records .now) (a .page .now) (a .p .writer) (s .pre .0) (busy s), s .pre .1)
 
-count-put-requires : tie.Need-count-put-requires
-count-put-requires c κs =
+count-store-requires : tie.Need-count-store-requires
+count-store-requires c κs =
     let s = c .before .before .before .before .before in
     let a = s .args in (
       s .pre .0 .good,
@@ -37,7 +37,7 @@ slice-write-page : tie.Need-slice-write-page
 slice-write-page c =
     let s = c .before .before .before .before .before .before in
     let a = s .args in
-    count-onto (form s) (a .records .now) (a .page .now) (a .p .writer) (s .pre .0) (s .pre .2) (c .count-put .ensures)
+    count-onto (form s) (a .records .now) (a .page .now) (a .p .writer) (s .pre .0) (s .pre .2) (c .count-store .ensures)
 
 count-steps-requires : tie.Need-count-steps-requires
 count-steps-requires c κs = search needs
@@ -61,7 +61,7 @@ returns c =
     let a = s .args in
     let e = rw (n .count-steps .ensures) at (c .onward .ensures) in (
       stepped-count (form s) (a .records .now) (a .page .now) (a .p .writer) (s .pre .0 .kept) (s .pre .2)
-          (p .count-put .ensures) e,
+          (p .count-store .ensures) e,
       rw e (advanced-knows (form s) (a .p .writer) _ 1 (i .ink .result) (λ _. i .ink .ensures)),
     )
 
@@ -70,7 +70,7 @@ step-count-spec =
     tie.close
     (tie.spec
     ink-requires
-    count-put-requires
+    count-store-requires
     slice-write-page
     count-steps-requires
     onward-requires

@@ -30,8 +30,8 @@ ink-requires c κs =
     let a = s .args in
     (writable (form s) (a .records .now) (a .page .now) (a .p .writer) (s .pre .0) (busy s), s .pre .1)
 
-version-put-requires : tie.Need-version-put-requires
-version-put-requires c κs =
+version-store-requires : tie.Need-version-store-requires
+version-store-requires c κs =
     let s = c .before .before .before .before .before in
     let a = s .args in
     let r = record-steps (form s) (a .records .now) (a .page .now) (a .p .writer) (s .pre .0) (s .pre .2) in
@@ -42,7 +42,7 @@ slice-write-page c =
     let s = c .before .before .before .before .before .before in
     let a = s .args in
     record-onto (form s) (a .records .now) (a .page .now) (a .p .writer) (s .pre .0) (s .pre .2)
-    (c .version-put .ensures)
+    (c .version-store .ensures)
 
 record-steps-requires : tie.Need-record-steps-requires
 record-steps-requires c κs = search needs
@@ -66,7 +66,7 @@ returns c =
     let a = s .args in
     let e = rw (size n) at (c .onward .ensures) in (
       stepped-record (form s) (a .records .now) (a .page .now) (a .p .writer) (s .pre .0 .kept) (s .pre .2)
-          (p .version-put .ensures) e,
+          (p .version-store .ensures) e,
       rw e (advanced-knows (form s) (a .p .writer) _ 1 (i .ink .result) (λ _. i .ink .ensures)),
     )
 
@@ -75,7 +75,7 @@ step-version-spec =
     tie.close
     (tie.spec
     ink-requires
-    version-put-requires
+    version-store-requires
     slice-write-page
     record-steps-requires
     onward-requires

@@ -5,7 +5,7 @@ use Prim.Native.Nat.{_≤_, _-_}
 use native.Mathlib.Omega.{arith}
 use lib.ListN.{length, drop}
 use Rattle.radix.specs.Copies.{compare}
-use Rattle.radix.proofs.Laws.Compares.{
+use Rattle.radix.proofs.Parting.Compares.{
   behind,
   behind-none,
   compare-lower,

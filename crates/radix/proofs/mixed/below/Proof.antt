@@ -5,7 +5,7 @@ use Prim.Native.Nat.{_≤_, _-_}
 use native.Mathlib.Omega.{arith}
 use lib.ListN.{length, drop}
 use Rattle.radix.specs.Digits.{valid}
-use Rattle.radix.proofs.Laws.Turns.{valid-on, valid-off, valid-end}
+use Rattle.radix.proofs.Numbers.Turns.{valid-on, valid-off, valid-end}
 use Rattle.radix.proofs.mixed.below.Statement.{statement}
 use Rattle.radix.proofs.mixed.below.Tie as tie
 

@@ -13,10 +13,10 @@ use lib.Dec.{ltb}
 use Rattle.radix.specs.Digits.{product}
 use Rattle.radix.specs.Answers.{goodBases}
 use Rattle.radix.proofs.Theorems.RoundTrip.{digit-at}
-use Rattle.radix.proofs.Laws.Bases.{few, good-take, lent-few}
-use Rattle.radix.proofs.Laws.Products.{rest-pos}
-use Rattle.radix.proofs.Laws.Places.{lent-rest}
-use Rattle.radix.proofs.Laws.Shares.{base-pos, base-most, fits-digit}
+use Rattle.radix.proofs.Numbers.Bases.{few, good-take, lent-few}
+use Rattle.radix.proofs.Numbers.Products.{rest-pos}
+use Rattle.radix.proofs.Numbers.Places.{lent-rest}
+use Rattle.radix.proofs.Numbers.Shares.{base-pos, base-most, fits-digit}
 use Rattle.radix.proofs.mixed.digit.Statement.{statement}
 use Rattle.radix.proofs.mixed.digit.Tie as tie
 

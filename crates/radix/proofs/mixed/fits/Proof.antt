@@ -1,10 +1,10 @@
 -- x is below the product exactly if its share of the later bases is below the first base.
 use borrow.Author.Needs.{needs}
 use native.Mathlib.Omega.{arith}
-use Rattle.radix.proofs.Laws.Bases.{lent-few}
-use Rattle.radix.proofs.Laws.Products.{rest-pos}
-use Rattle.radix.proofs.Laws.Places.{empty, lent-rest}
-use Rattle.radix.proofs.Laws.Shares.{fits-first}
+use Rattle.radix.proofs.Numbers.Bases.{lent-few}
+use Rattle.radix.proofs.Numbers.Products.{rest-pos}
+use Rattle.radix.proofs.Numbers.Places.{empty, lent-rest}
+use Rattle.radix.proofs.Numbers.Shares.{fits-first}
 use Rattle.radix.proofs.mixed.fits.Statement.{statement}
 use Rattle.radix.proofs.mixed.fits.Tie as tie
 

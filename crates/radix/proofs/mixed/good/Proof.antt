@@ -5,7 +5,7 @@ use mathlib.Core.Path.{_≡_, _∙_}
 use Prim.Native.Nat.{_≤_, _-_}
 use lib.ListN.{length, drop, drop-of-length-le}
 use Rattle.radix.specs.Answers.{all, goodBase}
-use Rattle.radix.proofs.Laws.Turns.{good-on, good-low, good-high}
+use Rattle.radix.proofs.Numbers.Turns.{good-on, good-low, good-high}
 use Rattle.radix.proofs.mixed.good.Statement.{statement}
 use Rattle.radix.proofs.mixed.good.Tie as tie
 

@@ -6,7 +6,7 @@ use native.Mathlib.Omega.{arith}
 use lib.ListN.{length, drop, drop-of-length-le}
 use Rattle.radix.specs.Digits.{product, value}
 use Rattle.radix.proofs.Theorems.RoundTrip.{valid-sound, length-valid}
-use Rattle.radix.proofs.Laws.Turns.{horner-on, horner-fits}
+use Rattle.radix.proofs.Numbers.Turns.{horner-on, horner-fits}
 use Rattle.radix.proofs.mixed.horner.Statement.{statement}
 use Rattle.radix.proofs.mixed.horner.Tie as tie
 

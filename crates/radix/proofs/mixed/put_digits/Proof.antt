@@ -7,8 +7,8 @@ use native.Mathlib.Omega.{arith}
 use lib.ListN.{length, drop, length-set, drop-of-length-le}
 use lib.Seq.{drop-length}
 use Rattle.radix.specs.Digits.{product, digits}
-use Rattle.radix.proofs.Laws.Shares.{base-pos, base-most}
-use Rattle.radix.proofs.Laws.Turns.{left-on, digits-on}
+use Rattle.radix.proofs.Numbers.Shares.{base-pos, base-most}
+use Rattle.radix.proofs.Numbers.Turns.{left-on, digits-on}
 use Rattle.radix.proofs.mixed.put_digits.Statement.{statement}
 use Rattle.radix.proofs.mixed.put_digits.Tie as tie
 

@@ -5,7 +5,7 @@ use Prim.Native.Nat.{_≤_, _-_, _*_}
 use native.Mathlib.Nat.{one-mul, mul-one}
 use lib.ListN.{length, drop, drop-of-length-le}
 use Rattle.radix.specs.Digits.{product}
-use Rattle.radix.proofs.Laws.Turns.{weight-on, weight-fits}
+use Rattle.radix.proofs.Numbers.Turns.{weight-on, weight-fits}
 use Rattle.radix.proofs.mixed.weight.Statement.{statement}
 use Rattle.radix.proofs.mixed.weight.Tie as tie
 

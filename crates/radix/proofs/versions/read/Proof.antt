@@ -5,8 +5,8 @@ use mathlib.Core.Path.{_≡_, _∙_}
 use native.Mathlib.Omega.{arith}
 use lib.ListN.{replicate, length-replicate}
 use Rattle.radix.specs.Answers.{valueOf}
-use Rattle.radix.proofs.Laws.Places.{take-replicate}
-use Rattle.radix.proofs.Laws.Sizes.{value-size}
+use Rattle.radix.proofs.Numbers.Places.{take-replicate}
+use Rattle.radix.proofs.Numbers.Sizes.{value-size}
 use Rattle.radix.proofs.versions.read.Statement.{statement}
 use Rattle.radix.proofs.versions.read.Tie as tie
 

@@ -7,7 +7,7 @@ use native.Mathlib.Omega.{arith}
 use lib.ListN.{length, take, length-set}
 use Rattle.protocol.specs.Lists.{range}
 use Rattle.report.specs.Header.{number}
-use Rattle.report.proofs.Laws.Filled.{filled}
+use Rattle.report.proofs.Parsing.Filled.{filled}
 use Rattle.report.proofs.header.bases.Statement.{statement}
 use Rattle.report.proofs.header.bases.Tie as tie
 

@@ -12,7 +12,7 @@ use lib.Seq.{length-take-le}
 use Rattle.protocol.specs.Lists.{range}
 use Rattle.protocol.specs.Form.{formOf, goodForm}
 use Rattle.report.specs.Header.{number, places, formEnd, formIn}
-use Rattle.report.proofs.Laws.Parses.{
+use Rattle.report.proofs.Parsing.Parses.{
   too-long,
   nothing,
   places-low,

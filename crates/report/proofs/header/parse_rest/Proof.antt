@@ -7,8 +7,8 @@ use lib.ListN.{length}
 use Rattle.protocol.proofs.InRange.{in-range}
 use Rattle.report.specs.Header.{number, formIn, headerIn, commandsAt}
 use Rattle.report.specs.declared.header.Parsed.{Parsed as Found}
-use Rattle.report.proofs.Laws.Numbers.{two-small}
-use Rattle.report.proofs.Laws.Founds.{
+use Rattle.report.proofs.Parsing.Numbers.{two-small}
+use Rattle.report.proofs.Parsing.Founds.{
   records-fit,
   record-at,
   records-at,

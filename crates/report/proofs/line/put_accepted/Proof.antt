@@ -6,8 +6,8 @@ use Prim.Native.Nat.{ℕ, _+_, _*_, _≤_}
 use native.Mathlib.Omega.{arith}
 use lib.ListN.{length, take, drop, length-take}
 use Rattle.report.specs.Text.{decimal, hex, acceptedLine}
-use Rattle.report.proofs.Laws.Lines.{Line, room, line-first, line-word, line-hex, line-end}
-use Rattle.report.proofs.Laws.Parts.{part, part-fits, part-length}
+use Rattle.report.proofs.Texts.Lines.{Line, room, line-first, line-word, line-hex, line-end}
+use Rattle.report.proofs.Texts.Parts.{part, part-fits, part-length}
 use Rattle.report.proofs.line.put_accepted.Statement.{statement}
 use Rattle.report.proofs.line.put_accepted.Tie as tie
 

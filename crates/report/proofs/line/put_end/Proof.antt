@@ -6,7 +6,7 @@ use Prim.Native.Nat.{ℕ}
 use native.Mathlib.Omega.{arith}
 use Rattle.protocol.specs.Outcome.{endingNumber}
 use Rattle.report.specs.Text.{decimal, endLine}
-use Rattle.report.proofs.Laws.Lines.{Line, room, line-first, line-letter, line-word, line-end}
+use Rattle.report.proofs.Texts.Lines.{Line, room, line-first, line-letter, line-word, line-end}
 use Rattle.report.proofs.line.put_end.Statement.{statement}
 use Rattle.report.proofs.line.put_end.Tie as tie
 

@@ -5,7 +5,7 @@ use mathlib.Core.List.{List, [], _∷_, _++_, append-assoc}
 use Prim.Native.Nat.{ℕ}
 use native.Mathlib.Omega.{arith}
 use Rattle.report.specs.Text.{decimal, shownLine}
-use Rattle.report.proofs.Laws.Lines.{Line, room, line-first, line-word, line-end}
+use Rattle.report.proofs.Texts.Lines.{Line, room, line-first, line-word, line-end}
 use Rattle.report.proofs.line.put_shown.Statement.{statement}
 use Rattle.report.proofs.line.put_shown.Tie as tie
 

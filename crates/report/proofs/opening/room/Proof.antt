@@ -3,8 +3,8 @@ use borrow.Author.Needs.{needs}
 use mathlib.Core.Path.{sym, ap, _∙_}
 use native.Mathlib.Omega.{arith}
 use Rattle.report.specs.Turn.{spaceOf}
-use Rattle.report.proofs.Laws.Taken.{Taken, taken, refused-is}
-use Rattle.report.proofs.Laws.Spaces.{space-is, page-fits, buffers-fit, states-fit}
+use Rattle.report.proofs.Parsing.Taken.{Taken, taken, refused-is}
+use Rattle.report.proofs.Parsing.Spaces.{space-is, page-fits, buffers-fit, states-fit}
 use Rattle.report.proofs.opening.room.Statement.{statement}
 use Rattle.report.proofs.opening.room.Tie as tie
 

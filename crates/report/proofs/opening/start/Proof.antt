@@ -6,7 +6,7 @@ use Prim.Native.Nat.{_≤_}
 use lib.ListN.{length}
 use lib.Seq.{length-take-le}
 use Rattle.packed.specs.Kept.{Kept, kept}
-use Rattle.report.proofs.Laws.Taken.{Taken, taken, refused-is}
+use Rattle.report.proofs.Parsing.Taken.{Taken, taken, refused-is}
 use Rattle.report.proofs.Turns.Calls.{form-is, first-is, start-refused, start-opened}
 use Rattle.report.proofs.opening.start.Statement.{statement}
 use Rattle.report.proofs.opening.start.Tie as tie

@@ -1,6 +1,6 @@
 -- The loop keeps: k digits and those of left but one are all digits of x.
 use native.Mathlib.Omega.{arith}
-use Rattle.report.proofs.Laws.Counting.{Counting, counting-none, counting-on, counting-all}
+use Rattle.report.proofs.Texts.Counting.{Counting, counting-none, counting-on, counting-all}
 use Rattle.report.proofs.text.places.Statement.{statement}
 use Rattle.report.proofs.text.places.Tie as tie
 

@@ -3,7 +3,7 @@ use mathlib.Core.Path.{_≡_, refl, ap, _∙_}
 use Prim.Native.Nat.{_≤_, _-_}
 use native.Mathlib.Omega.{arith}
 use lib.ListN.{length, length-set}
-use Rattle.report.proofs.Laws.Hexes.{hexed, hexed-none, hexed-all, hexed-length, hexed-on}
+use Rattle.report.proofs.Texts.Hexes.{hexed, hexed-none, hexed-all, hexed-length, hexed-on}
 use Rattle.report.proofs.text.put_hex.Statement.{statement}
 use Rattle.report.proofs.text.put_hex.Tie as tie
 

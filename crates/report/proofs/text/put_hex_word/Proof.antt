@@ -4,8 +4,8 @@ use mathlib.Core.Path.{sym, _∙_}
 use native.Mathlib.Omega.{arith}
 use lib.ListN.{length-set}
 use Rattle.report.specs.Text.{hex}
-use Rattle.report.proofs.Laws.Hexes.{length-hex}
-use Rattle.report.proofs.Laws.Overlays.{put-behind}
+use Rattle.report.proofs.Texts.Hexes.{length-hex}
+use Rattle.report.proofs.Texts.Overlays.{put-behind}
 use Rattle.report.proofs.text.put_hex_word.Statement.{statement}
 use Rattle.report.proofs.text.put_hex_word.Tie as tie
 

@@ -3,7 +3,7 @@ use borrow.Author.Needs.{needs}
 use mathlib.Core.Path.{ap}
 use Prim.Native.Nat.{_+_}
 use Rattle.codec.specs.Entry.{added}
-use Rattle.report.proofs.Laws.Overlays.{overlay-one}
+use Rattle.report.proofs.Texts.Overlays.{overlay-one}
 use Rattle.report.proofs.text.put_letter.Statement.{statement}
 use Rattle.report.proofs.text.put_letter.Tie as tie
 

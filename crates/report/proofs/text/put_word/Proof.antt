@@ -4,8 +4,8 @@ use mathlib.Core.Path.{_∙_}
 use native.Mathlib.Omega.{arith}
 use lib.ListN.{length-set}
 use Rattle.report.specs.Text.{decimal}
-use Rattle.report.proofs.Laws.Digits.{length-decimal}
-use Rattle.report.proofs.Laws.Overlays.{put-behind}
+use Rattle.report.proofs.Texts.Digits.{length-decimal}
+use Rattle.report.proofs.Texts.Overlays.{put-behind}
 use Rattle.report.proofs.text.put_word.Statement.{statement}
 use Rattle.report.proofs.text.put_word.Tie as tie
 

@@ -5,7 +5,7 @@ use native.Mathlib.Omega.{arith}
 use lib.ListN.{length, length-set}
 use Rattle.codec.specs.Entry.{overlay}
 use Rattle.report.specs.Text.{decimal}
-use Rattle.report.proofs.Laws.Spelling.{Spelling, spelling-all, spelling-on, spelling-none}
+use Rattle.report.proofs.Texts.Spelling.{Spelling, spelling-all, spelling-on, spelling-none}
 use Rattle.report.proofs.text.spell.Statement.{statement}
 use Rattle.report.proofs.text.spell.Tie as tie
 

@@ -8,10 +8,10 @@ use lib.ListN.{length}
 use lib.Seq.{length-take-le}
 use Rattle.packed.specs.Kept.{Kept, kept}
 use Rattle.report.specs.Header.{headerIn}
-use Rattle.report.specs.Calls.{toldFrom}
-use Rattle.report.proofs.Laws.Headers.{Accepted, accepted}
+use Rattle.report.specs.Calls.{turnedFrom}
+use Rattle.report.proofs.Parsing.Headers.{Accepted, accepted}
 use Rattle.report.proofs.Turns.Tests.{tells-last}
-use Rattle.report.proofs.Turns.Calls.{ends-none, outcome-fits, ends-refused, goes-on}
+use Rattle.report.proofs.Turns.Calls.{last-none, outcome-fits, last-refused, goes-on}
 use Rattle.report.proofs.turn.carry_out.Statement.{statement}
 use Rattle.report.proofs.turn.carry_out.Tie as tie
 
@@ -85,8 +85,8 @@ slice-aggregate-run-2 c = search needs
 run-requires : tie.Need-run-requires
 run-requires c κs = search needs
 
-ends-requires : tie.Need-ends-requires
-ends-requires c κs = search needs
+last-turn-requires : tie.Need-last-turn-requires
+last-turn-requires c κs = search needs
 
 same-length : tie.Need-same-length
 same-length c = search needs
@@ -105,9 +105,9 @@ returns c =
     let b = d .before in
     let s = start-of b in
     let a = s .args in
-    tells-last (a .line .now) (a .p) _ _ (c .ends .ensures)
-    ∙ ap (toldFrom (a .line .now))
-    (ends-none (a .input .now) (a .p) (kept-of s) (a .h) (s .pre .0) (b .bases .ensures .1)
+    tells-last (a .line .now) (a .p) _ _ (c .last-turn .ensures)
+    ∙ ap (turnedFrom (a .line .now))
+    (last-none (a .input .now) (a .p) (kept-of s) (a .h) (s .pre .0) (b .bases .ensures .1)
     (r .run .ensures) (d .decode .ensures) (k .match .keys2))
 
 -- A COMMAND
@@ -136,8 +136,8 @@ step-requires c κs = search needs
 enum-known-a : tie.Need-enum-known-a
 enum-known-a c = search needs
 
-ends-requires-2 : tie.Need-ends-requires-2
-ends-requires-2 c κs = search needs
+last-turn-requires-2 : tie.Need-last-turn-requires-2
+last-turn-requires-2 c κs = search needs
 
 enum-known-a-2 : tie.Need-enum-known-a-2
 enum-known-a-2 c = search needs
@@ -189,9 +189,9 @@ returns-2 c =
     let b = bases-at r in
     let s = start-of b in
     let a = s .args in
-    tells-last (a .line .now) (a .p) _ _ (c .ends2 .ensures)
-    ∙ ap (toldFrom (a .line .now))
-    (ends-refused (a .input .now) (a .p) (kept-of s) (a .h) (s .pre .0) (b .bases .ensures .1)
+    tells-last (a .line .now) (a .p) _ _ (c .last-turn2 .ensures)
+    ∙ ap (turnedFrom (a .line .now))
+    (last-refused (a .input .now) (a .p) (kept-of s) (a .h) (s .pre .0) (b .bases .ensures .1)
     (d .before .before .decode .ensures) (d .d .given .1) (r .step .ensures) _ (n .a .given .1))
 
 same-length-7 : tie.Need-same-length-7
@@ -232,7 +232,7 @@ carry-out-spec =
     part-run-end-2
     slice-aggregate-run-2
     run-requires
-    ends-requires
+    last-turn-requires
     same-length
     same-length-2
     same-length-3
@@ -244,7 +244,7 @@ carry-out-spec =
     part-step-end
     step-requires
     enum-known-a
-    ends-requires-2
+    last-turn-requires-2
     enum-known-a-2
     put-requires
     add-t67

@@ -11,10 +11,10 @@ use Rattle.protocol.specs.declared.Ending.the-variants.{Finished, Refused}
 use Rattle.packed.specs.Kept.{Kept, kept}
 use Rattle.report.specs.Header.{Parsed, headerIn, parse}
 use Rattle.report.specs.Turn.{turnOf}
-use Rattle.report.specs.Calls.{toldFrom}
-use Rattle.report.proofs.Laws.Taken.{Taken, taken, refused-is}
+use Rattle.report.specs.Calls.{turnedFrom}
+use Rattle.report.proofs.Parsing.Taken.{Taken, taken, refused-is}
 use Rattle.report.proofs.Turns.Tests.{header-refused, beyond, too-many, at-end, inside, tells-last}
-use Rattle.report.proofs.Turns.Forward.{told-bounds}
+use Rattle.report.proofs.Turns.Forward.{turned-bounds}
 use Rattle.report.proofs.turn.next.Statement.{statement}
 use Rattle.report.proofs.turn.next.Tie as tie
 
@@ -39,14 +39,14 @@ parse-requires c κs = search needs
 enum-known-x : tie.Need-enum-known-x
 enum-known-x c = search needs
 
-ends-requires : tie.Need-ends-requires
-ends-requires c κs = search needs
+last-turn-requires : tie.Need-last-turn-requires
+last-turn-requires c κs = search needs
 
 enum-known-x-2 : tie.Need-enum-known-x-2
 enum-known-x-2 c = search needs
 
-ends-requires-2 : tie.Need-ends-requires-2
-ends-requires-2 c κs = search needs
+last-turn-requires-2 : tie.Need-last-turn-requires-2
+last-turn-requires-2 c κs = search needs
 
 -- a strange place
 returns : tie.Need-returns
@@ -63,11 +63,11 @@ returns c =
     (λ w. too-many i p K (headerIn i) (w .0 .left) (ltb-true _ _ (w .2 .taken)))
     (j .if1 .came)
     in
-    let e = tells-last (s .args .line .now) p K (Refused InvalidState) (c .ends2 .ensures) ∙ ap (toldFrom (s .args .line .now)) (sym q) in
-    (e, told-bounds i p K (s .args .line .now) (parsed s) e)
+    let e = tells-last (s .args .line .now) p K (Refused InvalidState) (c .last-turn2 .ensures) ∙ ap (turnedFrom (s .args .line .now)) (sym q) in
+    (e, turned-bounds i p K (s .args .line .now) (parsed s) e)
 
-ends-requires-3 : tie.Need-ends-requires-3
-ends-requires-3 c κs = search needs
+last-turn-requires-3 : tie.Need-last-turn-requires-3
+last-turn-requires-3 c κs = search needs
 
 -- where neither test of the place holds
 abbrev known : tie.Else2 → tie.After-x2
@@ -87,8 +87,8 @@ returns-2 c =
     let p = s .args .p in
     let K = kept-of s in
     let q = ap (turnOf i p K) (taken-here x .is-header) ∙ at-end i p K (headerIn i) (t .if3 .taken) (few k) in
-    let e = tells-last (s .args .line .now) p K Finished (c .ends3 .ensures) ∙ ap (toldFrom (s .args .line .now)) (sym q) in
-    (e, told-bounds i p K (s .args .line .now) (parsed s) e)
+    let e = tells-last (s .args .line .now) p K Finished (c .last-turn3 .ensures) ∙ ap (turnedFrom (s .args .line .now)) (sym q) in
+    (e, turned-bounds i p K (s .args .line .now) (parsed s) e)
 
 -- a command
 low : (c : tie.Else3) → let a = start-of (known (c .before .before) .before .before) .args in
@@ -115,8 +115,8 @@ returns-3 c =
     let K = kept-of s in
     let q =
     ap (turnOf i p K) (refused-is i _ _ (sym (r .parse .ensures) ∙ x .x .given .1)) ∙ header-refused i p K _ in
-    let e = tells-last (s .args .line .now) p K _ (c .ends .ensures) ∙ ap (toldFrom (s .args .line .now)) (sym q) in
-    (e, told-bounds i p K (s .args .line .now) (parsed s) e)
+    let e = tells-last (s .args .line .now) p K _ (c .last-turn .ensures) ∙ ap (turnedFrom (s .args .line .now)) (sym q) in
+    (e, turned-bounds i p K (s .args .line .now) (parsed s) e)
 
 same-length : tie.Need-same-length
 same-length c = search needs
@@ -138,8 +138,8 @@ returns-4 c =
     let K = kept-of s in
     let q =
     ap (turnOf i p K) (taken-here x .is-header) ∙ inside i p K (headerIn i) (low k) (few (k .before .before)) in
-    let e = o .carry-out .ensures ∙ ap (toldFrom (s .args .line .now)) (sym q) in
-    (e, told-bounds i p K (s .args .line .now) (parsed s) e)
+    let e = o .carry-out .ensures ∙ ap (turnedFrom (s .args .line .now)) (sym q) in
+    (e, turned-bounds i p K (s .args .line .now) (parsed s) e)
 
 pub next-spec : {M : Type 1} → statement M
 next-spec =
@@ -147,11 +147,11 @@ next-spec =
     (tie.spec
     parse-requires
     enum-known-x
-    ends-requires
+    last-turn-requires
     enum-known-x-2
-    ends-requires-2
+    last-turn-requires-2
     returns
-    ends-requires-3
+    last-turn-requires-3
     returns-2
     carry-out-requires
     returns-3

@@ -1,0 +1,51 @@
+-- The test of the code is the test of `onGathered`.
+use mathlib.Core.Path.{ap, _∙_}
+use lib.ListN.{replicate}
+use Rattle.page.proofs.Readers.Stored.{no-room, has-room}
+use borrow.Author.Needs.{needs}
+use Rattle.page.proofs.finishing.finish.Statement.{statement}
+use Rattle.page.proofs.finishing.finish.Tie as tie
+
+size-requires : tie.Need-size-requires
+size-requires c κs = search needs
+
+back-requires : tie.Need-back-requires
+back-requires c κs = search needs
+
+same-length : tie.Need-same-length
+same-length c = search needs
+
+returns : tie.Need-returns
+returns c =
+    let z = c .before .before in
+    let i = z .before .before in
+    λ F b. z .back .ensures b ∙ no-room F _ _ _ (i .before .size .ensures) _ b (i .if1 .taken)
+
+zero-requires : tie.Need-zero-requires
+zero-requires c κs = search needs
+
+idle-requires : tie.Need-idle-requires
+idle-requires c κs = search needs
+
+same-length-2 : tie.Need-same-length-2
+same-length-2 c = search needs
+
+returns-2 : tie.Need-returns-2
+returns-2 c =
+    let z = c .before .before .before in
+    let i = z .before .before in
+    let e = z .zero .ensures ∙ ap (λ n. replicate n 0) (i .before .before .before .pre) in
+    λ F b. rw (c .idle .ensures) (has-room F _ _ _ (i .before .size .ensures) _ b _ (i .if1 .left) e)
+
+pub finish-spec : {M : Type 1} → statement M
+finish-spec =
+    tie.close
+    (tie.spec
+    size-requires
+    back-requires
+    same-length
+    returns
+    zero-requires
+    idle-requires
+    same-length-2
+    returns-2)

@@ -1,0 +1,3 @@
+-- Where two copies part, and the two ends.
+pub mod Compares
+pub mod Ends
