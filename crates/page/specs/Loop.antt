@@ -146,7 +146,8 @@ abbrev pub turnAt : Form → (page : List ℕ) → (i : ℕ) → List Reader →
 turnAt F page i rs bs log d z = inPlace i rs (readTurn F page i (readerAt rs i) bs log d z)
 
 -- A STEP THAT ENDS NOTHING, of a reader in its place; or nothing is done
-abbrev pub Advanced : Form → (page : List ℕ) → (i : ℕ) → List Reader → (buffers : List ℕ) → Bool → List Reader → List ℕ → Type 0
+abbrev pub Advanced :
+    Form → (page : List ℕ) → (i : ℕ) → List Reader → (buffers : List ℕ) → Bool → List Reader → List ℕ → Type 0
 Advanced F page i rs bs true rs′ bs′ =
     (i < length rs) × ((room : ℕ) → afterRead (Done Nothing) rs′ bs′ ≡ carryAt F page i room rs bs (ReaderStep i))
 Advanced F page i rs bs false rs′ bs′ = (rs′ ≡ rs) × (bs′ ≡ bs)

@@ -7,7 +7,6 @@ use native.Mathlib.Omega.{arith}
 use lib.Dec.{eqb, leb, ltb}
 use lib.ListN.{length, getD, drop}
 use borrow.Author.Tests.{eqb-true, eqb-false, ltb-true, ltb-false, ne-eqb}
-use Rattle.radix.specs.Digits.{ofBytes}
 use Rattle.radix.proofs.Numbers.Places.{from}
 use Rattle.protocol.specs.Command.{Decoded as ProtocolDecoded, unknown, command, withBody, decode}
 use Rattle.protocol.specs.declared.Command.{Command}
@@ -66,7 +65,9 @@ module _ (s : List ℕ) (at none : ℕ) (h : at < length s) where
   step-there k many = rw (← there k many)
 
   -- WHAT THE ANSWER SAYS
-  pub stepper-is : {i : ℕ} → i ≡ stepperIn (decodeAt s at) none → i < none → Decoded.Is (ReaderStep i) (at + 2) ≡ decodeAt s at
+  pub stepper-is :
+      {i : ℕ} → i ≡ stepperIn (decodeAt s at) none → i < none →
+      Decoded.Is (ReaderStep i) (at + 2) ≡ decodeAt s at
   stepper-is {i} e below = go (eqb (getD s at 0) 6) (ltb (length s - at) 2) refl refl
     where
       go :

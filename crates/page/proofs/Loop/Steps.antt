@@ -1,5 +1,5 @@
 -- A reader's step that ends nothing is the turn of its command, with nothing entered into the log.
-use mathlib.Core.Path.{_≡_, refl, ap, sym, _∙_}
+use mathlib.Core.Path.{_≡_, refl, ap, _∙_}
 use mathlib.Core.List.{List}
 use mathlib.Core.Bool.{Bool, true, false, not}
 use Prim.Native.Nat.{ℕ, _+_, _-_, _≤_, _<_}
@@ -25,7 +25,6 @@ use Rattle.page.specs.Loop.{
   whoseIn,
   stepperIn,
   readTurn,
-  PlaceTurn,
   placeTurn,
   turnAt,
   Advanced,
@@ -92,7 +91,8 @@ module _
       turned : placeTurn (advanced y) rs bs (z .log) ≡ turnAt F (L .page) i (L .readers) (L .buffers) (z .log) d y
       unfolding readTurn
       turned =
-          ap (λ (e : Entered). placeTurn (e .standing) rs bs (e .log)) (enter-nothing (z .log) y next {a = Done Nothing} refl refl refl)
+          ap (λ (e : Entered). placeTurn (e .standing) rs bs (e .log))
+          (enter-nothing (z .log) y next {a = Done Nothing} refl refl refl)
           ∙ ap (λ (a : AfterRead). let e = enterOf (z .log) y next (a .answer) in
           placeTurn (e .standing) (a .readers) (a .buffers) (e .log)) (so (length (z .log) - y .written))
 

@@ -1,7 +1,6 @@
 -- The digit is put in its place; the last one ends the read.
 use mathlib.Core.Path.{_∙_}
 use native.Mathlib.Omega.{arith}
-use lib.ListN.{length-set}
 use Rattle.page.proofs.Readers.Counts.{count-on, count-whole, count-last}
 use borrow.Author.Needs.{needs}
 use Rattle.page.proofs.count_read.take_count.Statement.{statement}

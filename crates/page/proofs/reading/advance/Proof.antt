@@ -1,5 +1,5 @@
 -- The kinds, by the tests of the code.
-use mathlib.Core.Path.{refl, ap, _∙_}
+use mathlib.Core.Path.{refl}
 use Prim.Native.Nat.{_+_, _*_, _≤_}
 use native.Mathlib.Omega.{arith}
 use Rattle.protocol.proofs.InRange.{in-range}

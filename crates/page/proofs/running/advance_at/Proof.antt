@@ -59,7 +59,7 @@ use Rattle.page.specs.Loop.{Advanced}
 use Rattle.page.proofs.Readers.Ways.{held-steps}
 use Rattle.page.proofs.Walks.Rules.Flat.{_&_}
 use Rattle.page.proofs.Walks.Rules.Tests.{holds-false, holds-not-not}
-use Rattle.page.proofs.Walks.Rules.Digits.{D, spelt as spelt-digits, same, putting, lends-digits, digits-back}
+use Rattle.page.proofs.Walks.Rules.Digits.{D, spelt as spelt-digits, same, lends-digits, digits-back}
 use Rattle.page.proofs.Walks.Rules.Digits.{lent as lent-digits}
 use Rattle.page.proofs.Walks.Rules.Locals.{free, has, spread, locals, the, wide, enters, leaves, leaves-within, arg}
 use Rattle.page.proofs.Walks.Rules.Again.{lends-on}
@@ -261,7 +261,8 @@ module _ {M : Type 1} (𝓤 : URA M) (H : Heap 𝓤) (A : Atoms 𝓤) (W : Given
               subst (λ (ds : List ℕ). Is D ds (spelt-digits ds)) (same (y .digits))
               (LL.owed T.the-type T′.the-laws y (mach y ∷ []) is .1 .0)
 
-          is-moved : (k : ℕ) (ds : List ℕ) → k < 2 ^ 64 → Is D ds (spelt-digits ds) → Is R (moved k ds) (mach (moved k ds) ∷ [])
+          is-moved : (k : ℕ) (ds : List ℕ) → k < 2 ^ 64 → Is D ds (spelt-digits ds) →
+              Is R (moved k ds) (mach (moved k ds) ∷ [])
           is-moved k ds fits d =
               let s = LL.owed TS.the-type TS′.the-laws (y .stage) (stage ∷ []) is-stage in
               LL.owes T.the-type T′.the-laws (moved k ds)
@@ -286,8 +287,8 @@ module _ {M : Type 1} (𝓤 : URA M) (H : Heap 𝓤) (A : Atoms 𝓤) (W : Given
               lends-on ! 15 25 26 (are .1 .1 .1 .1 .0 .0 .1 .0) refl refl refl refl refl refl $
               lends-on ! 16 27 28 (are .1 .1 .1 .1 .1 .0 .0 .1 .0) refl refl refl refl refl refl $
               lends-digits y b spot ! tt is-digits (λ α δ.
-              -- [α; the digits; what is kept; the way back; what it owns; the others; bases' token; the bases; what shuts the
-              -- readers; the page; the buffers; their tokens; _0; …]
+              -- [α; the digits; what is kept; the way back; what it owns; the others; bases' token; the bases; what shuts
+              -- the readers; the page; the buffers; their tokens; _0; …]
               nothing ! $ move ! (11 ∷ 0 ∷ []) $ fjoin ! $ move ! (10 ∷ 0 ∷ []) $ fjoin ! $ move ! (8 ∷ 0 ∷ []) $ fjoin ! $
               move ! (2 ∷ 0 ∷ []) $ fjoin ! $ move ! (1 ∷ 6 ∷ 8 ∷ 9 ∷ []) $ binds ! 4 (κs₁ α) qs₁ $ join ! $
               -- [what `advance` gets; what is kept; the way back; what it owns; the others; what shuts the readers; _0; …]

@@ -300,7 +300,8 @@ module _ {M : Type 1} (𝓤 : URA M) (H : Heap 𝓤) (A : Atoms 𝓤) (W : Given
       (𝓣 : Tables 𝓤 H) (known-first : Triple 𝓤 (𝓣 .C #first) (Firsts 𝓤 H A mem run))
       (known-dry : Triple 𝓤 (𝓣 .C #dry) (Drys 𝓤 H A mem run))
       (known-goes : Triple 𝓤 (𝓣 .C #goes) (Goes 𝓤 H A mem run))
-      (known-stepper : Triple 𝓤 (𝓣 .C #stepper) (Steppers 𝓤 H A W mem run)) (known-advance : Triple 𝓤 (𝓣 .C #advance-at) (Advances 𝓤 H A W mem run))
+      (known-stepper : Triple 𝓤 (𝓣 .C #stepper) (Steppers 𝓤 H A W mem run))
+      (known-advance : Triple 𝓤 (𝓣 .C #advance-at) (Advances 𝓤 H A W mem run))
       (known-step : Triple 𝓤 (𝓣 .C #advanced) (Steps 𝓤 H A W mem run))
       (known-decode : Triple 𝓤 (𝓣 .C #decode) (Decodes 𝓤 H A mem run))
       (known-whose : Triple 𝓤 (𝓣 .C #whose) (Whoses 𝓤 H A mem run))
@@ -715,7 +716,8 @@ module _ {M : Type 1} (𝓤 : URA M) (H : Heap 𝓤) (A : Atoms 𝓤) (W : Given
 
       -- whose command it is
       forks : (i : Loop) → Holds (going (s i) k) → Is TD.the-row (d i) (decoded-val (d i) ∷ []) →
-          Sq W (Lying (z i) ∷ Sharing ∷ Shutting ∷ locals 𝓤 H E (slots free (z i) ++ (free ∷ free ∷ has (decoded-val (d i)) ∷ [])))
+          Sq W (Lying (z i) ∷ Sharing ∷ Shutting ∷
+          locals 𝓤 H E (slots free (z i) ++ (free ∷ free ∷ has (decoded-val (d i)) ∷ [])))
           (runs C Λ E asking (anyQ (Turned-to i)))
       forks i on is-d =
           nothing ! $ calls-with ! (fmOf 𝓤 H (W .laws) 𝓣) (Whoses 𝓤 H A mem run) known-whose
@@ -783,7 +785,8 @@ module _ {M : Type 1} (𝓤 : URA M) (H : Heap 𝓤) (A : Atoms 𝓤) (W : Given
       unfolding afterTurn
       moves i on y said l =
           nothing ! $ nothing ! $ join ! $
-          calls-with-last ! (fmOf 𝓤 H (W .laws) 𝓣) (Steps 𝓤 H A W mem run) known-step ((tt, tt, tt, (s i, tt), (val (s i) ∷ [], tt)), tt)
+          calls-with-last ! (fmOf 𝓤 H (W .laws) 𝓣) (Steps 𝓤 H A W mem run) known-step
+          ((tt, tt, tt, (s i, tt), (val (s i) ∷ [], tt)), tt)
           (asked-if 𝓤 H A W 0 tt tt (typesAt (g-step.signature .params) tt) (s i, tt) (val (s i) ∷ [], tt)
           (made (LL.makes TS.the-type TS′.the-plain 𝓤 H A) (is i) & tt) (counts i on .0, step-fits i on y said))
           (arg ! 16 refl (no-more !)) (λ u. given (Is TS.the-row (advanced (s i)) (u ∷ [])) (‵ ftrue))
@@ -833,7 +836,8 @@ module _ {M : Type 1} (𝓤 : URA M) (H : Heap 𝓤) (A : Atoms 𝓤) (W : Given
                 (say .1),
           ) (lr′ & lp & lb))
           (λ no.
-          let same = was-kept F (z i .others .0) (steps i) (z i .readers) (z i .others .1 .0) (y .0) (y .1 .1) t no (say .1) in
+          let same =
+          was-kept F (z i .others .0) (steps i) (z i .readers) (z i .others .1 .0) (y .0) (y .1 .1) t no (say .1) in
           rewrite ! 0 (λ (ys : List Reader). ‵ (Lies (κs .1) (qs .1) (a .0) others ys (y .1 .0 & y .1 .1 & logged (z i))))
           (same .0) refl $
           rewrite ! 0 (λ (p : List ℕ). ‵ (Lies (κs .1) (qs .1) (a .0) others (z i .readers) (p & y .1 .1 & logged (z i))))
