@@ -24,7 +24,7 @@ pub(crate) struct Returned {
     pub(crate) writer: Writer,
 }
 
-fn returned(r: Ran) -> Returned
+fn returning(r: Ran) -> Returned
     ensures { λ t. ⌜ t ≡ returnedOf r ⌝ }
 {
     let e = r.ending;
@@ -69,7 +69,7 @@ pub extern "C" fn lagumtay_run(
     let f = *format;
     let w = *writer;
     let r = page::run(readers, f, bases, page, w, buffers, records, commands, log);
-    let t = returned(r);
+    let t = returning(r);
     *writer = t.writer;
     *answer = t.answer;
     t.refusal

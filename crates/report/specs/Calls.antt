@@ -17,7 +17,7 @@ pub record TurnedKept : Type 0 where
   pub line : List ℕ
 
 abbrev pub turnedBy : Turned → Kept → List ℕ → TurnedKept
-turnedBy r K line = record { told = r; kept = K; line = line }
+turnedBy r K line = record { turned = r; kept = K; line = line }
 
 -- the turn's text is put over the line that was lent
 abbrev pub turnedFrom : List ℕ → Turn → TurnedKept

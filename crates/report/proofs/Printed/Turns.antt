@@ -73,9 +73,9 @@ module _
     refused-ends : (p : Progress) (K : Kept) (c : Command) (next : ℕ) (why : Refusal)
         → decodeAt s (p .at) ≡ Decoded.Is c next → stepKept F S K c .answer ≡ Answer.Refused why
         → carryOut s x p K ≡ lastTurn p (stepKept F S K c .kept) (Refused why)
-    unfolding carried told
+    unfolding carried answered
     refused-ends p K c next why d f =
-        ap (carried s x p K) d ∙ ap (told (F .n) next p (stepKept F S K c .kept)) f
+        ap (carried s x p K) d ∙ ap (answered (F .n) next p (stepKept F S K c .kept)) f
 
     abbrev goneOn : (p : Progress) (next : ℕ) (K : Kept) (τ : State) (o : Outcome) → Turn
     goneOn p next K τ o = record {
@@ -89,9 +89,9 @@ module _
         → decodeAt s (p .at) ≡ Decoded.Is c next
         → stepKept F S K c ≡ record { answer = Answer.Done o; kept = packedOver K (stored F τ) }
         → carryOut s x p K ≡ goneOn p next K τ o
-    unfolding carried told stored
+    unfolding carried answered stored
     done-goes p K c next τ o d f =
-        ap (carried s x p K) d ∙ ap (λ (y : SteppedKept). told (F .n) next p (y .kept) (y .answer)) f
+        ap (carried s x p K) d ∙ ap (λ (y : SteppedKept). answered (F .n) next p (y .kept) (y .answer)) f
 
     -- ALL TURNS
 
@@ -176,7 +176,7 @@ module _
         go again true q =
             let end : at ≡ length s = eqb-true at (length s) q in
             let none : full F S room σ (drop at s) ≡ stop σ Finished = none-left F S room σ s at end in
-            step k (progress at d) K (ends (progress at d) K Finished) (at-end s (progress at d) K x end b)
+            step k (progress at d) K (lastTurn (progress at d) K Finished) (at-end s (progress at d) K x end b)
             ∙ finish k d Finished (progress at d) K (full F S room σ (drop at s)) refl
             (ap (λ (w : Execution). w .events) none) (ap (λ (w : Execution). w .ending) none)
         go again false q =

@@ -71,10 +71,10 @@ use Rattle.lagumtay.proofs.Walks.Loads.{loads-shr, loads-mut}
 use Rattle.lagumtay.proofs.Walks.Stores.{Mut, stores-mut}
 use Rattle.lagumtay.proofs.Walks.Apart.{tokens, apart, together, as-long}
 use Rattle.lagumtay.proofs.Walks.Facts.{both, calls-plain}
-use Rattle.lagumtay.proofs.running.returned as h
-use Rattle.lagumtay.proofs.running.returned.Symbol as returned-def
-use Rattle.lagumtay.proofs.running.returned.Symbol.{name as #lagumtay·returned}
-use Rattle.lagumtay.proofs.running.returned.Met as returned-thm
+use Rattle.lagumtay.proofs.running.returning as h
+use Rattle.lagumtay.proofs.running.returning.Symbol as returning-def
+use Rattle.lagumtay.proofs.running.returning.Symbol.{name as #lagumtay·returning}
+use Rattle.lagumtay.proofs.running.returning.Met as returning-thm
 use Rattle.lagumtay.proofs.running.lagumtay_run.Key.{name as #lagumtay·lagumtay-run}
 use Rattle.lagumtay.proofs.running.lagumtay_run as f
 use Rattle.lagumtay.proofs.running.lagumtay_run.Statement as stated
@@ -95,7 +95,7 @@ abbrev Known : {M : Type 1} (𝓤 : URA M) (H : Heap 𝓤) (A : Atoms 𝓤) (mem
     → Calls 𝓤 H → Type 1
 Known 𝓤 H A mem run C =
     Triple 𝓤 (C #page·run) (tripleOf 𝓤 H A g.signature (g.spec 𝓤 H A mem run))
-    × Triple 𝓤 (C #lagumtay·returned) (tripleOf 𝓤 H A h.signature (h.spec 𝓤 H A mem run))
+    × Triple 𝓤 (C #lagumtay·returning) (tripleOf 𝓤 H A h.signature (h.spec 𝓤 H A mem run))
 
 module _ {M : Type 1} (𝓤 : URA M) (H : Heap 𝓤) (A : Atoms 𝓤) (W : Given 𝓤 H A) (mem : Memory → SProp 𝓤)
     (run : Routine → Fun 𝓤) (κs : Lfts 10) (qs : Shares 10) (a : Args f.signature κs) where
@@ -279,5 +279,5 @@ lagumtay-run-spec 𝓤 H 𝓜 𝓖 𝓡 =
     (code.unfolded 𝓤 H 𝓜 𝓡)
     (meets 𝓤 H (𝓖 .A) (givenOf 𝓤 H 𝓜 𝓖) (𝓜 .mem) (𝓡 .run) (tablesOf 𝓤 H 𝓜 (tables 𝓤 H 𝓜 𝓡 code.env))
     (cited 𝓤 H _ 𝓜 𝓡 code.env #page·run run-def.routine code.calls-page·run (run-thm.met 𝓤 H 𝓜 𝓖 𝓡) &
-    cited 𝓤 H _ 𝓜 𝓡 code.env #lagumtay·returned returned-def.routine code.calls-lagumtay·running·returned
-    (returned-thm.met 𝓤 H 𝓜 𝓖 𝓡)))
+    cited 𝓤 H _ 𝓜 𝓡 code.env #lagumtay·returning returning-def.routine code.calls-lagumtay·running·returning
+    (returning-thm.met 𝓤 H 𝓜 𝓖 𝓡)))
