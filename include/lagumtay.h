@@ -73,7 +73,7 @@ typedef struct {
 
 /* What a step tells beside its refusal, by the kinds of the log's entries. kind 0: no read finished; 1: a count shown;
  * 2: a record accepted; 3: a read gave up. Fields that the kind does not have are zero.
- * crates/lagumtay/specs/Step.antt, `toldOf`. */
+ * crates/lagumtay/specs/Step.antt, `entryOf`. */
 typedef struct {
     uint8_t kind;
     uint8_t reader;
