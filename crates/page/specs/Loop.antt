@@ -34,7 +34,7 @@ use Rattle.page.specs.declared.looping.Verdict.{Verdict}
 use Rattle.page.specs.declared.turning.ReadTurn.{ReadTurn}
 use Rattle.page.specs.declared.turning.WriteTurn.{WriteTurn}
 use Rattle.page.specs.Reads.{whoseOf, readsAt, ReadReady}
-use Rattle.page.specs.Writes.{writes, NoReader}
+use Rattle.page.specs.Writes.{writes, NoReader, writesOn}
 use Rattle.page.specs.Carry.{readerAt, afterRead, carryAt}
 
 abbrev pub standing : Verdict → (taken done written : ℕ) → Standing
@@ -57,6 +57,10 @@ stopped z why = standing (Verdict.Stops why) (z .taken) (z .done) (z .written)
 -- a reader's step that ends nothing: two bytes, and no entry
 abbrev pub advanced : Standing → Standing
 advanced z = standing Verdict.Goes (z .taken + 2) (z .done + 1) (z .written)
+
+-- a step of a write: one byte, and no entry
+abbrev pub wroteOn : Standing → Standing
+wroteOn z = standing Verdict.Goes (z .taken + 1) (z .done + 1) (z .written)
 
 pub record Entered : Type 0 where
   pub standing : Standing
@@ -103,6 +107,12 @@ unfoldable pub stepperIn : Decoded → (none : ℕ) → ℕ
 stepperIn Decoded.Over none = none
 stepperIn Decoded.Unknown none = none
 stepperIn (Decoded.Is x next) none = stepperOf x none
+
+-- is it the next step of a pending write?
+unfoldable pub writesOnIn : Decoded → Writer → Bool
+writesOnIn Decoded.Over w = false
+writesOnIn Decoded.Unknown w = false
+writesOnIn (Decoded.Is x next) w = writesOn x w
 
 -- of one reader
 pub record OneTurn : Type 0 where

@@ -1,7 +1,7 @@
 -- The writer's commands: the protocol's `carry`, on a page and a writer alone.
 use mathlib.Core.Path.{_≡_}
 use mathlib.Core.List.{List, []}
-use mathlib.Core.Bool.{true, cond}
+use mathlib.Core.Bool.{Bool, true, false, not, cond}
 use Prim.Native.Nat.{ℕ, _+_, _≤_}
 use lib.Dec.{eqb}
 use lib.ListN.{length, getD}
@@ -15,6 +15,15 @@ use Rattle.protocol.specs.Step.{Answer as ProtocolAnswer, refused, done, record
 use Rattle.protocol.specs.Memory.{storedWriting}
 use Rattle.protocol.specs.Load.{loadWriting}
 use Rattle.protocol.specs.declared.Command.{Command}
+use Rattle.protocol.specs.declared.Command.the-variants.{
+  WriteCount,
+  WriteRecord,
+  WriterStep,
+  BeginCountRead,
+  BeginRecordRead,
+  ReaderStep,
+  Cancel,
+}
 use Rattle.protocol.specs.declared.Writer.{Writer}
 use Rattle.page.specs.declared.Answer.{Answer}
 use Rattle.page.specs.declared.Answer.the-variants.{Done, Refused}
@@ -54,6 +63,16 @@ pub record WriteReady (F : Form) (S page : List ℕ) (w : Writer) : Type 0 where
 -- no command of a reader that there is
 abbrev pub NoReader : Form → Command → Type 0
 NoReader F x = F .readers ≤ whoseOf x (F .readers)
+
+-- the next step of a pending write
+abbrev pub writesOn : Command → Writer → Bool
+writesOn (WriteCount c) w = false
+writesOn (WriteRecord i) w = false
+writesOn WriterStep w = not (eqb (w .kind) 0)
+writesOn (BeginCountRead r) w = false
+writesOn (BeginRecordRead r a) w = false
+writesOn (ReaderStep r) w = false
+writesOn (Cancel r) w = false
 
 -- where step k of a write writes, and what
 abbrev pub store : (position digit : ℕ) → Store

@@ -5,7 +5,7 @@ ghost use Prim.Native.Nat.{ℕ, _+_, _<_};
 ghost use Rattle.protocol.specs.declared.Outcome.{Outcome};
 ghost use Rattle.protocol.specs.declared.Outcome.the-variants.{Nothing};
 ghost use Rattle.page.specs.declared.Answer.the-variants.{Done};
-ghost use Rattle.page.specs.Loop.{firstStanding, going, stopped as stoppedOf, advanced as advancedOf, entered, enterOf, ranAs};
+ghost use Rattle.page.specs.Loop.{firstStanding, going, stopped as stoppedOf, advanced as advancedOf, wroteOn, entered, enterOf, ranAs};
 use crate::Answer;
 use crate::Ran;
 use protocol::Ending;
@@ -79,6 +79,14 @@ pub(crate) fn advanced(s: Standing) -> Standing
     ensures { λ r. ⌜ r ≡ advancedOf s ⌝ }
 {
     onward(s, s.taken + 2, s.written)
+}
+
+// After a step of a write: one byte, and no entry.
+pub(crate) fn wrote_on(s: Standing) -> Standing
+    requires { ⌜ (s .done < 18446744073709551615) × (s .taken + 1 < 18446744073709551616) ⌝ }
+    ensures { λ r. ⌜ r ≡ wroteOn s ⌝ }
+{
+    onward(s, s.taken + 1, s.written)
 }
 
 // After a reader's command, with its entry in the log.

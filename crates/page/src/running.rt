@@ -17,6 +17,7 @@ use crate::pen;
 use crate::reading;
 use crate::starting;
 use crate::turning;
+use crate::write_step;
 use codec::Decoded;
 use protocol::Ending;
 use protocol::Format;
@@ -107,7 +108,7 @@ pub(crate) fn advance_at(
     true
 }
 
-// The commands in order, up to the first that is refused.
+// The commands in order, up to the first that is refused. Steps are most of them, so they are taken before all is decoded.
 pub(crate) fn run_all(
     readers: &mut [Reader],
     format: Format,
@@ -137,6 +138,9 @@ pub(crate) fn run_all(
         let moved = advance_at(readers, w, format, bases, page, buffers);
         if moved {
             s = looping::advanced(s);
+        } else if turning::writes_on(commands, s.taken, p.writer) {
+            p = write_step::step_write(format, bases, page, records, p);
+            s = looping::wrote_on(s);
         } else {
             let d = codec::decode(commands, s.taken);
             let i = turning::whose(d, n);

@@ -1,5 +1,6 @@
 // One turn of a run: a decoded command, and its entry in the log.
 ghost use mathlib.Core.Path.{_≡_};
+ghost use mathlib.Core.Bool.{false};
 ghost use Prim.Native.Nat.{_≤_, _<_};
 ghost use lib.ListN.{length};
 ghost use Rattle.protocol.specs.Form.{formOf};
@@ -7,7 +8,7 @@ ghost use Rattle.protocol.specs.Memory.{readerOf};
 ghost use Rattle.codec.specs.Decode.{decodeAt};
 ghost use Rattle.page.specs.Pen.{Knows};
 ghost use Rattle.page.specs.Writes.{WriteReady};
-ghost use Rattle.page.specs.Loop.{whoseIn, stepperIn, oneTurnBy, readTurn, TurnReady, penTurnBy, writeTurn, NoReaderIn};
+ghost use Rattle.page.specs.Loop.{whoseIn, stepperIn, writesOnIn, oneTurnBy, readTurn, TurnReady, penTurnBy, writeTurn, NoReaderIn};
 use crate::looping;
 use crate::looping::Standing;
 use crate::pen::Pen;
@@ -18,6 +19,7 @@ use protocol::Command;
 use protocol::Format;
 use protocol::Refusal;
 use protocol::Stage;
+use protocol::Writer;
 
 pub(crate) struct ReadTurn {
     pub(crate) standing: Standing,
@@ -65,6 +67,17 @@ pub(crate) fn stepper(commands: &[u8], at: usize, none: usize) -> usize
         return none;
     }
     wide(commands[at + 1])
+}
+
+// Is the next step of a pending write at this place?
+pub(crate) fn writes_on(commands: &[u8], at: usize, w: Writer) -> bool
+    requires { ⌜ at < length (now commands) ⌝ }
+    ensures { λ r. ⌜ r ≡ writesOnIn (decodeAt (now (commands .entry)) at) w ⌝ }
+{
+    if commands[at] != 3 {
+        return false;
+    }
+    w.kind != 0
 }
 
 // The same stage, field by field: its padding would be copied at each command.
@@ -117,7 +130,7 @@ pub(crate) fn read_turn(
     }
 }
 
-// A turn of the writer, or a command that is none.
+// A turn of the writer that is no step of a pending write, or a command that is none.
 pub(crate) fn write_turn(
     format: Format,
     bases: &[u16],
@@ -130,6 +143,7 @@ pub(crate) fn write_turn(
     requires { ⌜ WriteReady (formOf (now bases) format) (now records) (now page) (p .writer)
         × Knows (formOf (now bases) format) p
         × NoReaderIn (formOf (now bases) format) d
+        × (writesOnIn d (p .writer) ≡ false)
         × (s .done < 18446744073709551615) ⌝ }
     ensures { λ r. ⌜ (penTurnBy r (now (page .exit))
         ≡ writeTurn (formOf (now (bases .entry)) format) (now (records .entry)) (now (page .entry)) (p .writer) d s)

@@ -1,37 +1,16 @@
-// One command of the writer, or of a reader that there is not.
+// One command of the writer, but no step of a pending write, which a run takes by itself; or of a reader that there is not.
 ghost use mathlib.Core.Path.{_≡_};
+ghost use mathlib.Core.Bool.{false};
 ghost use Rattle.protocol.specs.Form.{formOf};
-ghost use Rattle.protocol.specs.declared.Command.the-variants.{WriterStep};
 ghost use Rattle.page.specs.Pen.{Knows};
-ghost use Rattle.page.specs.Writes.{wroteBy, writes, WriteReady, NoReader};
-use crate::Answer;
+ghost use Rattle.page.specs.Writes.{wroteBy, writes, WriteReady, NoReader, writesOn};
 use crate::pen;
 use crate::pen::Carried;
 use crate::pen::Pen;
 use crate::write_begin;
-use crate::write_step;
 use protocol::Command;
 use protocol::Format;
-use protocol::Outcome;
 use protocol::Refusal;
-
-// The pending write's next step, if there is one.
-fn step(format: Format, bases: &[u16], page: &mut [u8], records: &[u8], p: Pen) -> Carried
-    requires { ⌜ WriteReady (formOf (now bases) format) (now records) (now page) (p .writer)
-        × Knows (formOf (now bases) format) p ⌝ }
-    ensures { λ r. ⌜ (wroteBy r (now (page .exit))
-        ≡ writes (formOf (now (bases .entry)) format) (now (records .entry)) (now (page .entry)) (p .writer) WriterStep)
-        × Knows (formOf (now (bases .entry)) format) (r .pen) ⌝ }
-{
-    if p.writer.kind == 0 {
-        return pen::refused(Refusal::NothingPending, p);
-    }
-    let next = write_step::step_write(format, bases, page, records, p);
-    Carried {
-        answer: Answer::Done(Outcome::Nothing),
-        pen: next,
-    }
-}
 
 pub(crate) fn write(
     format: Format,
@@ -43,7 +22,8 @@ pub(crate) fn write(
 ) -> Carried
     requires { ⌜ WriteReady (formOf (now bases) format) (now records) (now page) (p .writer)
         × Knows (formOf (now bases) format) p
-        × NoReader (formOf (now bases) format) x ⌝ }
+        × NoReader (formOf (now bases) format) x
+        × (writesOn x (p .writer) ≡ false) ⌝ }
     ensures { λ r. ⌜ (wroteBy r (now (page .exit))
         ≡ writes (formOf (now (bases .entry)) format) (now (records .entry)) (now (page .entry)) (p .writer) x)
         × Knows (formOf (now (bases .entry)) format) (r .pen) ⌝ }
@@ -51,7 +31,7 @@ pub(crate) fn write(
     match x {
         Command::WriteCount(c) => write_begin::begin_count(format, bases, page, records, p, c),
         Command::WriteRecord(i) => write_begin::begin_record(format, bases, page, records, p, i),
-        Command::WriterStep => step(format, bases, page, records, p),
+        Command::WriterStep => pen::refused(Refusal::NothingPending, p),
         Command::BeginCountRead(_) => pen::refused(Refusal::NoSuch, p),
         Command::BeginRecordRead(_, _) => pen::refused(Refusal::NoSuch, p),
         Command::ReaderStep(_) => pen::refused(Refusal::NoSuch, p),

@@ -1,48 +1,40 @@
 -- A place where a reader's step is, and any other.
 use mathlib.Core.Path.{_≡_, refl, sym, ap, ap₂, _∙_}
 use mathlib.Core.List.{List, _∷_}
-use mathlib.Core.Bool.{Bool, true, false, cond}
+use mathlib.Core.Bool.{Bool, true, false}
 use Prim.Native.Nat.{ℕ, _+_, _-_, _≤_, _<_}
 use native.Mathlib.Omega.{arith}
-use lib.Dec.{eqb, leb, ltb}
-use lib.ListN.{length, getD, drop}
+use lib.Dec.{eqb, ltb}
+use lib.ListN.{length, getD}
 use borrow.Author.Tests.{eqb-true, eqb-false, ltb-true, ltb-false, ne-eqb}
 use Rattle.radix.proofs.Numbers.Places.{from}
-use Rattle.protocol.specs.Command.{Decoded as ProtocolDecoded, unknown, command, withBody, decode}
-use Rattle.protocol.specs.declared.Command.{Command}
+use Rattle.protocol.specs.Command.{decode}
 use Rattle.protocol.specs.declared.Command.the-variants.{ReaderStep}
-use Rattle.codec.specs.Decode.{asDecoded, decodeAt}
+use Rattle.codec.specs.Decode.{decodeAt}
 use Rattle.codec.specs.declared.Decoded.{Decoded}
 use Rattle.codec.proofs.Decodes.{body, cut, whole, first-byte}
-use Rattle.page.specs.Loop.{stepperOf, stepperIn}
+use Rattle.page.specs.Loop.{stepperIn}
+use Rattle.page.proofs.Loop.Kinds.{Here, either, no-command, one}
 
 -- NO STEP
 module _ (size none : ℕ) where
-  abbrev None : ProtocolDecoded → Type 0
-  None d = none ≡ stepperIn (asDecoded size d) none
+  abbrev No : Decoded → Type 0
+  No d = none ≡ stepperIn d none
 
-  either : (t : Bool) (a b : ProtocolDecoded) → None a → None b → None (cond t a b)
-  either true a b p q = p
-  either false a b p q = q
+  nothing : No Decoded.Unknown
+  unfolding stepperIn
+  nothing = refl
 
-  no-command : None unknown
-  unfolding asDecoded stepperIn
-  no-command = refl
-
-  another : (k : ℕ) (l : List ℕ) (x : Command) → none ≡ stepperOf x none → None (withBody k l x)
-  unfolding asDecoded stepperIn
-  another k l x e = either (leb k (length l)) (command x (drop k l)) unknown e no-command
-
-  other-kind : (kind : ℕ) (l : List ℕ) → (kind ≡ 6 → ⊥) → None (decode (kind ∷ l))
-  unfolding decode
+  other-kind : (kind : ℕ) (l : List ℕ) → (kind ≡ 6 → ⊥) → Here size No nothing (decode (kind ∷ l))
+  unfolding decode stepperIn
   other-kind kind l h =
       rw (ne-eqb kind 6 h)
-      (either (eqb kind 1) _ _ (another 8 l _ refl)
-      (either (eqb kind 2) _ _ (another 2 l _ refl)
-      (either (eqb kind 3) _ _ (another 0 l _ refl)
-      (either (eqb kind 4) _ _ (another 1 l _ refl)
-      (either (eqb kind 5) _ _ (another 2 l _ refl)
-      (either (eqb kind 7) _ _ (another 1 l _ refl) no-command))))))
+      (either size No nothing (eqb kind 1) _ _ (one size No nothing 8 l _ (λ n. refl))
+      (either size No nothing (eqb kind 2) _ _ (one size No nothing 2 l _ (λ n. refl))
+      (either size No nothing (eqb kind 3) _ _ (one size No nothing 0 l _ (λ n. refl))
+      (either size No nothing (eqb kind 4) _ _ (one size No nothing 1 l _ (λ n. refl))
+      (either size No nothing (eqb kind 5) _ _ (one size No nothing 2 l _ (λ n. refl))
+      (either size No nothing (eqb kind 7) _ _ (one size No nothing 1 l _ (λ n. refl)) (no-command size No nothing)))))))
 
 module _ (s : List ℕ) (at none : ℕ) (h : at < length s) where
   pub no-step : (getD s at 0 ≡ 6 → ⊥) → none ≡ stepperIn (decodeAt s at) none

@@ -2,12 +2,10 @@ pub mod Empty
 pub mod TurnRest
 pub mod ReadTurn
 pub mod TurnAt
-pub mod WriteTurn
 pub mod RunRest
 pub mod First
 pub mod Dry
 pub mod Goes
-pub mod Decode
 pub mod Whose
 pub mod RanOf
 pub mod RunOpen

@@ -1,7 +1,7 @@
 -- The lent writer and the write that it holds, and one step of it.
 use mathlib.Core.Path.{_≡_, refl, sym, ap, subst, _∙_}
 use mathlib.Core.List.{List, []}
-use mathlib.Core.Bool.{Bool, true, false, cond}
+use mathlib.Core.Bool.{Bool, true, false, not, cond}
 use Prim.Native.Nat.{ℕ, suc, _+_, _<_}
 use native.Mathlib.Numerals.{add-one}
 use native.Mathlib.Omega.{arith}
@@ -27,7 +27,7 @@ use Rattle.page.specs.declared.pen.Pen.{Pen}
 use Rattle.page.specs.declared.pen.Carried.{Carried}
 use Rattle.page.specs.declared.write_step.Store.{Store}
 use Rattle.page.specs.Pen.{inkOf, Writable, Knows}
-use Rattle.page.specs.Writes.{countStore, recordStore, Wrote, wrote, wroteBy, onProtocol, writes, advanced, WriteReady}
+use Rattle.page.specs.Writes.{countStore, recordStore, Wrote, wrote, wroteBy, onProtocol, writes, advanced, writesOn, WriteReady}
 
 -- WHAT THE KIND SAYS
 
@@ -134,11 +134,18 @@ module _
         rw (e, f, g, a)
 
 -- nothing to step
+no-kind : (w : Writer) → writesOn WriterStep w ≡ false → w .kind ≡ 0
+no-kind w none = go (eqb (w .kind) 0) refl none
+  where
+    go : (t : Bool) → eqb (w .kind) 0 ≡ t → not t ≡ false → w .kind ≡ 0
+    go true e h = eqb-true (w .kind) 0 e
+    go false e h = absurd (let z : _≡_ {A = ℕ} 0 1 = cc in omega arith)
+
 pub nothing-pending :
-    (F : Form) (S page : List ℕ) (w : Writer) → storedWriting (loadWriting w) ≡ w → w .kind ≡ 0 →
+    (F : Form) (S page : List ℕ) (w : Writer) → storedWriting (loadWriting w) ≡ w → writesOn WriterStep w ≡ false →
     wrote (Refused NothingPending) page w ≡ writes F S page w WriterStep
 unfolding carry stepWriter onProtocol
-nothing-pending F S page w kept rest = rw (at-rest w kept rest)
+nothing-pending F S page w kept none = rw (at-rest w kept (no-kind w none))
 
 -- what an allowed write says of its steps and its number
 module _ (F : Form) (S page : List ℕ) (w : Writer) (ready : WriteReady F S page w) where

@@ -1,12 +1,12 @@
 -- What `run_all` is lent, open for its loop: the readers, page, buffers and log lie there. In a turn the commands are lent
--- to `stepper` and `decode`; all but the log to `advance_at`; then all four to `turn_at`, or the page to `write_turn`, with
--- what each shares. As steps:
+-- to `stepper`, `writes_on` and `decode`; all but the log to `advance_at`; all four to `turn_at`; or the page to `step_write`
+-- or `write_turn`, with what each shares. As steps:
 --     opens-all        the tokens, the readers and the eight: become that all lie there; what is shared; what shuts them
 --     shuts-all        these: become the tokens, and the last values
 --     lends-script, script-back    the commands at their own lifetime, and back
 --     relends-advance, come-advance    what `advance_at` gets, and back
 --     relends-turn, come-turn      what `turn_at` gets, and back
---     relends-write, come-write    what `write_turn` gets, and back
+--     relends-page, come-page     what `step_write` or `write_turn` gets, and back
 use mathlib.Core.Path.{_≡_}
 use Prim.Native.Nat.{ℕ}
 use mathlib.Core.List.{List, [], _∷_}
@@ -37,17 +37,13 @@ use Rattle.protocol.proofs.Format as TF
 use Rattle.protocol.proofs.Format.Laws as TF′
 use Rattle.protocol.proofs.Reader as T
 use Rattle.page.specs.declared.looping.Standing.{Standing}
-use Rattle.page.specs.declared.pen.Pen.{Pen}
 use Rattle.page.proofs.looping.Standing as TS
 use Rattle.page.proofs.looping.Standing.Laws as TS′
-use Rattle.page.proofs.pen.Pen as TP
-use Rattle.page.proofs.pen.Pen.Laws as TP′
 use Rattle.page.proofs.Walks.Rules.Flat.{_&_}
 use Rattle.page.proofs.Walks.Rules.Kept.{Own}
 use Rattle.page.proofs.Walks.Rules.Whole.{Lie, Shut, anew, Keep, opens, shuts, relends, comes}
 use Rattle.page.proofs.Walks.Rules.Tokens.{binds, unbinds}
 use Rattle.page.proofs.Walks.Calls.TurnRest as turn
-use Rattle.page.proofs.Walks.Calls.WriteTurn as write
 use Rattle.page.proofs.Walks.Calls.RunRest.{Lent, Lasts, page, buffers, records, commands, log, AsLong, Rest, Last}
 
 abbrev R : RattleType
@@ -130,9 +126,12 @@ module _ (κs : Lfts 6) (qs : Shares 6) (a : Lent) where
   abbrev Ours : Fml
   Ours = fsep tp (fsep tb tl)
 
-  -- the commands at their own lifetime, and what is left meanwhile
-  abbrev pub Alive : Fml
-  Alive = fsep tc ftrue
+  -- the loan of the commands, at their own lifetime, and what is left meanwhile
+  abbrev pub script-κs : Lfts 1
+  script-κs = (κc, tt)
+
+  abbrev pub script-qs : Shares 1
+  script-qs = (qc, tt)
 
   abbrev pub Without : Fml
   Without = fsep Slices (fsep t0 tr)
@@ -167,15 +166,15 @@ module _ (κs : Lfts 6) (qs : Shares 6) (a : Lent) where
         qed W (‵ Slices ∷ []) ∵ fsplit3 ! $ doubles ! u16 (κs .0) (a .1 .0) $ move ! (1 ∷ 2 ∷ 3 ∷ []) $ fjoin3 ! $
         move ! (1 ∷ 0 ∷ []) $ done !
 
-    for-write : ent 𝓤 ⟦ Slices ⟧ (sep 𝓤 ⟦ fsep Bases Records ⟧ ⟦ Slices ⟧)
-    for-write =
+    for-page : ent 𝓤 ⟦ Slices ⟧ (sep 𝓤 ⟦ fsep Bases Records ⟧ ⟦ Slices ⟧)
+    for-page =
         qed W (‵ Slices ∷ []) ∵ fsplit3 ! $ doubles ! u16 (κs .0) (a .1 .0) $ move ! (2 ∷ []) $
         doubles ! u8 (κs .1 .1 .1 .0) (records a) $
         -- [records, twice; bases, twice; commands]
         move ! (2 ∷ 0 ∷ []) $ fjoin ! $ move ! (2 ∷ 1 ∷ 3 ∷ []) $ fjoin3 ! $ move ! (1 ∷ 0 ∷ []) $ done !
 
-    for-decode : ent 𝓤 ⟦ Slices ⟧ (sep 𝓤 ⟦ Script ⟧ ⟦ Slices ⟧)
-    for-decode =
+    for-script : ent 𝓤 ⟦ Slices ⟧ (sep 𝓤 ⟦ Script ⟧ ⟦ Slices ⟧)
+    for-script =
         qed W (‵ Slices ∷ []) ∵ fsplit3 ! $ move ! (2 ∷ []) $ doubles ! u8 κc (commands a) $
         -- [commands, twice; bases; records]
         move ! (2 ∷ 3 ∷ 0 ∷ []) $ fjoin3 ! $ move ! (1 ∷ 0 ∷ []) $ done !
@@ -196,19 +195,6 @@ module _ (κs : Lfts 6) (qs : Shares 6) (a : Lent) where
           (sep 𝓤 ⟦ made αp ⟧ (sep 𝓤 ⟦ made αb ⟧ (sep 𝓤 ⟦ made αl ⟧ ⟦ t0 ⟧)))
       turn-apart =
           qed W (‵ t0 ∷ ‵ (made αp) ∷ ‵ (made αb) ∷ ‵ (made αl) ∷ ‵ ftrue ∷ []) ∵ keep ! (1 ∷ 2 ∷ 3 ∷ 0 ∷ []) $ done !
-
-    -- the tokens of a loan to `write_turn`
-    module _ (α : ℕ) where
-      write-together : ent 𝓤 (sep 𝓤 ⟦ flft (α ∷ []) fullShare ⟧ (sep 𝓤 ⟦ t0 ⟧ ⟦ tr ⟧))
-          (toks 𝓤 A 3 (κs .0, (α ∷ [], (κs .1 .1 .1 .0, tt))) (qs .0, (fullShare, (qs .1 .1 .1 .0, tt))))
-      write-together =
-          qed W (‵ (flft (α ∷ []) fullShare) ∷ ‵ t0 ∷ ‵ tr ∷ []) ∵ nothing ! $ move ! (2 ∷ 1 ∷ 3 ∷ 0 ∷ []) $ done !
-
-      write-apart : ent 𝓤
-          (toks 𝓤 A 3 (κs .0, (α ∷ [], (κs .1 .1 .1 .0, tt))) (qs .0, (fullShare, (qs .1 .1 .1 .0, tt))))
-          (sep 𝓤 ⟦ flft (α ∷ []) fullShare ⟧ (sep 𝓤 ⟦ t0 ⟧ ⟦ tr ⟧))
-      write-apart =
-          qed W (‵ t0 ∷ ‵ (flft (α ∷ []) fullShare) ∷ ‵ tr ∷ ‵ ftrue ∷ []) ∵ keep ! (1 ∷ 0 ∷ 2 ∷ []) $ done !
 
 module _ (κs : Lfts 6) (qs : Shares 6) (x : RefT (List Reader)) (a : Lent) where
   -- that ys and the page, buffers and log of c lie there
@@ -271,25 +257,22 @@ module _ (κs : Lfts 6) (qs : Shares 6) (x : RefT (List Reader)) (a : Lent) wher
       (fsep (Own u8 (αs .1 .0 ∷ []) (anew u8 (page a) (δs .1 .0) (c .0)))
       (fsep (Own u8 (αs .1 .1 ∷ []) (anew u8 (buffers a) (δs .1 .1) (c .1 .0))) ftrue))))
 
-  -- the loan to `write_turn`
-  abbrev pub write-κs : ℕ → Lfts 3
-  write-κs α = (κs .0, (α ∷ [], (κs .1 .1 .1 .0, tt)))
+  -- the loan to `step_write` or `write_turn`
+  abbrev pub page-κs : ℕ → Lfts 3
+  page-κs α = (κs .0, (α ∷ [], (κs .1 .1 .1 .0, tt)))
 
-  abbrev pub write-qs : Shares 3
-  write-qs = (qs .0, (fullShare, (qs .1 .1 .1 .0, tt)))
-
-  abbrev pub writing : GName → Pen → Decoded → Standing → List ℕ → write.Lent
-  writing δ p d s g = a .0 & a .1 .0 & anew u8 (page a) δ g & p & records a & d & s & tt
+  abbrev pub page-qs : Shares 3
+  page-qs = (qs .0, (fullShare, (qs .1 .1 .1 .0, tt)))
 
   abbrev pub KeepsPage : ℕ → GName → List Reader → Lasts → Fml
   KeepsPage α δ ys c =
       fsep (Keep u8 (page a) α δ (c .0))
       (fsep (Lie R x ys) (fsep (Inner c) (fsep (Slices κs qs a) (tc κs qs a))))
 
-  abbrev pub GetsPage : {M : Type 1} (𝓤 : URA M) (H : Heap 𝓤) (A : Atoms 𝓤) → ℕ → GName → Pen → Decoded → Standing →
-      List ℕ → Item 𝓤
-  GetsPage 𝓤 H A α δ p d s g =
-      raw (toks 𝓤 A 3 (write-κs α) write-qs) ⊛ ‵ (write.Rest (writing δ p d s g) (write-κs α))
+  abbrev pub GetsPage : {M : Type 1} (𝓤 : URA M) (H : Heap 𝓤) (A : Atoms 𝓤) → ℕ → GName → List ℕ → Item 𝓤
+  GetsPage 𝓤 H A α δ g =
+      raw (toks 𝓤 A 3 (page-κs α) page-qs) ⊛ ‵ (fsep (Bases κs qs a)
+      (fsep (Own u8 (α ∷ []) (anew u8 (page a) δ g)) (fsep (Records κs qs a) ftrue)))
 
   module _ {M : Type 1} {𝓤 : URA M} {H : Heap 𝓤} {A : Atoms 𝓤} {K : Type 0} {W : Given 𝓤 H A} {Γ : List (Item 𝓤)}
       {G : Goal 𝓤 H} (t : K) (z : Soaks G) where
@@ -328,17 +311,21 @@ module _ (κs : Lfts 6) (qs : Shares 6) (x : RefT (List Reader)) (a : Lent) wher
         use2 W (raw (toks 𝓤 A 6 κs qs)) (tokens-together κs qs a 𝓤 H A W) $ move t (3 ∷ 2 ∷ 1 ∷ []) $ fjoin3 t $
         move t (2 ∷ 3 ∷ 1 ∷ 0 ∷ []) $ s)
 
-    pub lends-script : Step K W ((‵ (Alive κs qs a) ⊛ ‵ (Script κs qs a)) ∷ ‵ (Without κs qs a) ∷ Γ) G
-        (‵ (Shared κs qs a) ∷ Γ) G
+    pub lends-script : Step K W ((raw (toks 𝓤 A 1 (script-κs κs qs a) (script-qs κs qs a)) ⊛
+        ‵ (fsep (Script κs qs a) ftrue)) ∷ ‵ (Without κs qs a) ∷ Γ) G (‵ (Shared κs qs a) ∷ Γ) G
     lends-script =
-        step (λ s. fsplit t $ use1 W (‵ (Script κs qs a) ⊛ ‵ (Slices κs qs a)) (for-decode κs qs a 𝓤 H A W) $ split t $
+        step (λ s. fsplit t $ use1 W (‵ (Script κs qs a) ⊛ ‵ (Slices κs qs a)) (for-script κs qs a 𝓤 H A W) $ split t $
         move t (2 ∷ []) $ fsplit3 t $ fjoin t $
         -- [bases' and records' tokens; commands'; commands; the slices]
-        move t (3 ∷ 0 ∷ []) $ fjoin t $ nothing t $ move t (2 ∷ 0 ∷ []) $ fjoin t $ move t (0 ∷ 2 ∷ []) $ join t $ s)
+        move t (3 ∷ 0 ∷ []) $ fjoin t $ nothing t $ move t (3 ∷ 0 ∷ []) $ fjoin t $
+        -- [commands; what is left; commands' token]
+        move t (2 ∷ []) $ binds t 1 (script-κs κs qs a) (script-qs κs qs a) $ join t $ s)
 
-    pub script-back : Step K W (‵ (Shared κs qs a) ∷ Γ) G (‵ (Alive κs qs a) ∷ ‵ (Without κs qs a) ∷ Γ) G
+    pub script-back : Step K W (‵ (Shared κs qs a) ∷ Γ) G
+        (raw (toks 𝓤 A 1 (script-κs κs qs a) (script-qs κs qs a)) ∷ ‵ (Without κs qs a) ∷ Γ) G
     script-back =
-        step (λ s. fsplit t $ move t (1 ∷ []) $ drop t $ move t (1 ∷ []) $ fsplit t $ move t (1 ∷ []) $ fsplit t $
+        step (λ s. unbinds t 1 (script-κs κs qs a) (script-qs κs qs a) $ move t (1 ∷ []) $ fsplit t $ move t (1 ∷ []) $
+        fsplit t $
         -- [bases' token; records'; the slices; commands']
         move t (0 ∷ 1 ∷ 3 ∷ []) $ fjoin3 t $ move t (1 ∷ 0 ∷ []) $ fjoin t $ s)
 
@@ -439,35 +426,29 @@ module _ (κs : Lfts 6) (qs : Shares 6) (x : RefT (List Reader)) (a : Lent) wher
         move t (5 ∷ 4 ∷ 0 ∷ []) $ comes u8 (log a) t z (αs .1 .1 .1) (δs .1 .1 .1) (c .1 .1) (e .1 .1) $
         come-three (three αs) (three δs) ys zs c e $ s)
 
-    pub relends-write : (p : Pen) (d : Decoded) (st : Standing) (ys : List Reader) (c : Lasts) → Room u8 (length (c .0)) →
-        Is TF.the-row (a .0) (LL.vals TF.the-type TF′.the-laws (a .0)) →
-        Is TP.the-row p (LL.vals TP.the-type TP′.the-laws p) → Is TD.the-row d (EL.vals TD.the-type TD′.the-laws d) →
-        Is TS.the-row st (LL.vals TS.the-type TS′.the-laws st)
-        → ((α : ℕ) (δ : GName) → Seq K W (GetsPage 𝓤 H A α δ p d st (c .0) ∷ ‵ (KeepsPage α δ ys c) ∷ Γ) G)
+    pub relends-page : (ys : List Reader) (c : Lasts) → Room u8 (length (c .0))
+        → ((α : ℕ) (δ : GName) → Seq K W (GetsPage 𝓤 H A α δ (c .0) ∷ ‵ (KeepsPage α δ ys c) ∷ Γ) G)
         → Seq K W (‵ (Lies ys c) ∷ ‵ (Shared κs qs a) ∷ Γ) G
-    relends-write p d st ys c rp f-is p-is d-is st-is k =
+    relends-page ys c rp k =
         fsplit t $ move t (1 ∷ []) $ fsplit t $ relends u8 (page a) t z (c .0) rp (λ α δ. move t (5 ∷ []) $ fsplit t $
-        use1 W (‵ (fsep (Bases κs qs a) (Records κs qs a)) ⊛ ‵ (Slices κs qs a)) (for-write κs qs a 𝓤 H A W) $ split t $
+        use1 W (‵ (fsep (Bases κs qs a) (Records κs qs a)) ⊛ ‵ (Slices κs qs a)) (for-page κs qs a 𝓤 H A W) $ split t $
         move t (2 ∷ []) $ fsplit3 t $
-        -- [bases' token; records'; commands'; what `write_turn` shares; the slices; page's token; the loan; what is kept;
-        -- buffers and log; the readers]
+        -- [bases' token; records'; commands'; bases and records; the slices; page's token; the loan; what is kept; buffers
+        -- and log; the readers]
         move t (4 ∷ 2 ∷ []) $ fjoin t $ move t (7 ∷ 0 ∷ []) $ fjoin t $ move t (7 ∷ 0 ∷ []) $ fjoin t $
-        move t (6 ∷ 0 ∷ []) $ fjoin t $
-        -- [what is kept; bases' token; records'; what it shares; page's token; the loan]
-        let κs′ : Lfts 3 = write-κs α in
-        let a′ : write.Lent = writing δ p d st (c .0) in
-        move t (5 ∷ 3 ∷ []) $ use2 W (‵ (write.Rest a′ κs′)) (write.whole a′ 𝓤 H A W κs′ f-is p-is d-is st-is) $
-        move t (4 ∷ 2 ∷ 3 ∷ []) $ use3 W (raw (toks 𝓤 A 3 κs′ write-qs)) (write-together κs qs a 𝓤 H A W α) $
-        join t $ k α δ)
+        move t (6 ∷ 0 ∷ []) $ fjoin t $ move t (3 ∷ []) $ fsplit t $ nothing t $
+        -- [none; bases; records; what is kept; bases' token; records'; page's; the loan]
+        move t (2 ∷ 0 ∷ []) $ fjoin t $ move t (6 ∷ 0 ∷ []) $ fjoin t $ move t (1 ∷ 0 ∷ []) $ fjoin t $
+        -- [the loans; what is kept; bases' token; records'; page's]
+        move t (2 ∷ 4 ∷ 3 ∷ []) $ binds t 3 (page-κs α) page-qs $ join t $ k α δ)
 
-    pub come-write : (α : ℕ) (δ : GName) (ys : List Reader) (c : Lasts) (g : List ℕ)
+    pub come-page : (α : ℕ) (δ : GName) (ys : List Reader) (c : Lasts) (g : List ℕ)
         → Step K W (‵ (Lies ys (g & c .1)) ∷ ‵ (Shared κs qs a) ∷ Γ) G
-        (raw (toks 𝓤 A 3 (write-κs α) write-qs) ∷ ‵ (finally u8 δ g) ∷ ‵ (KeepsPage α δ ys c) ∷ Γ) G
-    come-write α δ ys c g =
-        step (λ s. use1 W (‵ (flft (α ∷ []) fullShare) ⊛ (‵ (t0 κs qs a) ⊛ ‵ (tr κs qs a)))
-        (write-apart κs qs a 𝓤 H A W α) $ split t $ move t (1 ∷ []) $ split t $ move t (4 ∷ []) $ fsplit t $
-        -- [what is kept of page; of the others; bases' token; records'; page's; the last page]
-        move t (4 ∷ 5 ∷ 0 ∷ []) $ comes u8 (page a) t z α δ (c .0) g $ move t (1 ∷ []) $ fsplit t $ move t (1 ∷ []) $
+        (raw (toks 𝓤 A 3 (page-κs α) page-qs) ∷ ‵ (finally u8 δ g) ∷ ‵ (KeepsPage α δ ys c) ∷ Γ) G
+    come-page α δ ys c g =
+        step (λ s. unbinds t 3 (page-κs α) page-qs $ move t (4 ∷ []) $ fsplit t $
+        -- [what is kept of page; of the others; bases' token; page's; records'; the last page]
+        move t (3 ∷ 5 ∷ 0 ∷ []) $ comes u8 (page a) t z α δ (c .0) g $ move t (1 ∷ []) $ fsplit t $ move t (1 ∷ []) $
         fsplit t $ move t (1 ∷ []) $ fsplit t $
         -- [the slices; commands' token; buffers and log; the readers; page; bases' token; records']
         move t (5 ∷ 6 ∷ 1 ∷ []) $ fjoin3 t $ move t (1 ∷ 0 ∷ []) $ fjoin t $ move t (3 ∷ 1 ∷ []) $ fjoin t $

@@ -1,6 +1,6 @@
 -- `run_all` meets its contract: a walk of its MIR, by hand, with a loop in it. All that is lent as `&mut` is opened once,
 -- before the loop, and shut once, after it; for each turn it is lent on to `advance_at`, and, if that does nothing, to
--- `turn_at` or `write_turn`, and comes back.
+-- `step_write`, `turn_at` or `write_turn`, and comes back.
 use mathlib.Core.Path.{_≡_, refl, sym, _∙_, ap, subst}
 use Prim.Native.Nat.{ℕ, zero, _+_, _%_, _≤_, _<_, _^_}
 use native.Mathlib.Omega.{arith}
@@ -49,12 +49,16 @@ use Rattle.codec.specs.declared.Decoded.{Decoded}
 use Rattle.codec.specs.Decode.{decodeAt}
 use Rattle.codec.proofs.Decoded as TD
 use Rattle.codec.proofs.Decoded.Laws as TD′
+use Rattle.codec.proofs.decode as g-decode
 use Rattle.codec.proofs.decode.Symbol as decode-def
 use Rattle.codec.proofs.decode.Symbol.{name as #decode}
 use Rattle.codec.proofs.decode.Met as decode-thm
 use Rattle.protocol.specs.Form.{Form}
 use Rattle.protocol.specs.Memory as protocol
-use Rattle.protocol.specs.declared.Command.the-variants.{ReaderStep}
+use Rattle.protocol.specs.State.{busyWriting}
+use Rattle.protocol.specs.Load.{loadWriting}
+use Rattle.protocol.specs.declared.Command.the-variants.{ReaderStep, WriterStep}
+use Rattle.protocol.specs.declared.Outcome.the-variants.{Nothing}
 use Rattle.protocol.specs.declared.Reader.{Reader}
 use Rattle.protocol.specs.declared.Writer.{Writer}
 use Rattle.protocol.proofs.Format as TF
@@ -62,15 +66,16 @@ use Rattle.protocol.proofs.Format.Laws as TF′
 use Rattle.protocol.proofs.Reader as T
 use Rattle.protocol.proofs.Writer as TW
 use Rattle.protocol.proofs.Writer.Laws as TW′
+use Rattle.page.specs.declared.Answer.the-variants.{Done}
 use Rattle.page.specs.declared.looping.Standing.{Standing}
 use Rattle.page.specs.declared.pen.Pen.{Pen}
 use Rattle.page.specs.declared.turning.WriteTurn.{WriteTurn}
 use Rattle.page.specs.Pen.{Knows}
-use Rattle.page.specs.Writes.{WriteReady}
+use Rattle.page.specs.Writes.{WriteReady, wrote, writes as writes-of}
 use Rattle.page.specs.Reads.{ReadReady}
 use Rattle.page.specs.Carry.{lent, Ready, readerAt}
 use Rattle.page.specs.Loop.{firstStanding, going, whoseIn, ranAs, TurnReady, placeTurn, turnAt, NoReaderIn, penTurn}
-use Rattle.page.specs.Loop.{writeTurn, advanced, stepperIn, Advanced}
+use Rattle.page.specs.Loop.{writeTurn, advanced, stepperIn, Advanced, wroteOn, writesOnIn}
 use Rattle.page.specs.Calls.{ranLent, runLent}
 use Rattle.page.proofs.Ran as TR
 use Rattle.page.proofs.Ran.Laws as TR′
@@ -84,6 +89,7 @@ use Rattle.page.proofs.Loop.Going.{round, Going, turnsLeft, going-first
 use Rattle.page.proofs.Loop.Turns.{bytes-left, done-below, written-inside}
 use Rattle.page.proofs.Loop.Rounds.{turn-ready, going-read, pen-ready, no-reader-in, going-write}
 use Rattle.page.proofs.Loop.Steps.{step-inside, step-ready, going-step, was-moved, was-kept}
+use Rattle.page.proofs.Loop.WriteSteps.{can-write, going-wrote}
 use Rattle.page.proofs.Loop.Ends.{going-ends}
 use Rattle.page.proofs.Walks.Rules.After.{after}
 use Rattle.page.proofs.Walks.Rules.Arms.{if-held, if-failed}
@@ -93,8 +99,7 @@ use Rattle.page.proofs.Walks.Rules.Tests.{holds-true, holds-false}
 use Rattle.page.proofs.Walks.Rules.Locals.{Slot, free, has, spread, locals, the, wide, enters, leaves, arg}
 use Rattle.page.proofs.Walks.Rules.Again.{lends-on}
 use Rattle.page.proofs.Walks.Rules.Call.{calls-with, calls-with-last, answers, answers-last}
-use Rattle.page.proofs.Walks.Rules.Asks.{made, lent as lent-as, asked-if, told, asks, lends}
-use Rattle.page.proofs.Walks.Rules.Tokens.{binds, unbinds}
+use Rattle.page.proofs.Walks.Rules.Asks.{made, lent as lent-as, asked as asked-of, asked-if, told, asks, lends}
 use Rattle.page.proofs.Walks.Rules.Whole.{anew}
 use Rattle.page.proofs.Walks.Calls.RunRest as rest
 use Rattle.page.proofs.Walks.Calls.RunRest.{Lent, Lasts, spelt, form, page, writer, buffers, records, commands, log}
@@ -102,18 +107,15 @@ use Rattle.page.proofs.Walks.Calls.RunRest.{tail, fits, AsLong, Rest, L
 use Rattle.page.proofs.Walks.Calls.RunOpen as loan
 use Rattle.page.proofs.Walks.Calls.RunOpen.{Lies, Shared, Shuts, opens-all, shuts-all, lends-script, script-back}
 use Rattle.page.proofs.Walks.Calls.RunOpen.{relends-advance, come-advance}
-use Rattle.page.proofs.Walks.Calls.RunOpen.{relends-turn, come-turn, relends-write, come-write, κc, qc}
+use Rattle.page.proofs.Walks.Calls.RunOpen.{relends-turn, come-turn, relends-page, come-page}
 use Rattle.page.proofs.Walks.Calls.First.{Firsts, to-first, goes-first, first-gives}
 use Rattle.page.proofs.Walks.Calls.Dry.{dried, Drys, to-dry, goes-dry, dry-gives}
 use Rattle.page.proofs.Walks.Calls.Goes.{Goes, to-goes, goes-goes, goes-gives}
-use Rattle.page.proofs.Walks.Calls.Decode.{Decodes, to-decode, goes-decode, decode-gives}
 use Rattle.page.proofs.Walks.Calls.Whose.{Whoses, to-whose, goes-whose, whose-gives}
 use Rattle.page.proofs.Walks.Calls.RanOf.{Rans, to-ran, goes-ran, ran-gives}
 use Rattle.page.proofs.Walks.Calls.TurnRest as turn-rest
 use Rattle.page.proofs.Walks.Calls.TurnAt as turn
 use Rattle.page.proofs.Walks.Calls.TurnAt.{TurnsAt, to-at, goes-at, at-gives}
-use Rattle.page.proofs.Walks.Calls.WriteTurn as write
-use Rattle.page.proofs.Walks.Calls.WriteTurn.{Writes, to-write, goes-write, write-gives}
 use Rattle.page.proofs.pen.dry.Symbol as dry-def
 use Rattle.page.proofs.pen.dry.Symbol.{name as #dry}
 use Rattle.page.proofs.pen.dry.Met as dry-thm
@@ -129,6 +131,7 @@ use Rattle.page.proofs.looping.ran_of.Met as ran-thm
 use Rattle.page.proofs.turning.whose.Symbol as whose-def
 use Rattle.page.proofs.turning.whose.Symbol.{name as #whose}
 use Rattle.page.proofs.turning.whose.Met as whose-thm
+use Rattle.page.proofs.turning.write_turn as g-write
 use Rattle.page.proofs.turning.write_turn.Symbol as write-def
 use Rattle.page.proofs.turning.write_turn.Symbol.{name as #write-turn}
 use Rattle.page.proofs.turning.write_turn.Met as write-thm
@@ -136,6 +139,18 @@ use Rattle.page.proofs.turning.stepper as g-stepper
 use Rattle.page.proofs.turning.stepper.Symbol as stepper-def
 use Rattle.page.proofs.turning.stepper.Symbol.{name as #stepper}
 use Rattle.page.proofs.turning.stepper.Met as stepper-thm
+use Rattle.page.proofs.turning.writes_on as g-writes-on
+use Rattle.page.proofs.turning.writes_on.Symbol as writes-on-def
+use Rattle.page.proofs.turning.writes_on.Symbol.{name as #writes-on}
+use Rattle.page.proofs.turning.writes_on.Met as writes-on-thm
+use Rattle.page.proofs.write_step.step_write as g-step-write
+use Rattle.page.proofs.write_step.step_write.Symbol as step-write-def
+use Rattle.page.proofs.write_step.step_write.Symbol.{name as #step-write}
+use Rattle.page.proofs.write_step.step_write.Met as step-write-thm
+use Rattle.page.proofs.looping.wrote_on as g-wrote-on
+use Rattle.page.proofs.looping.wrote_on.Symbol as wrote-on-def
+use Rattle.page.proofs.looping.wrote_on.Symbol.{name as #wrote-on}
+use Rattle.page.proofs.looping.wrote_on.Met as wrote-on-thm
 use Rattle.page.proofs.looping.advanced as g-step
 use Rattle.page.proofs.looping.advanced.Symbol as step-def
 use Rattle.page.proofs.looping.advanced.Symbol.{name as #advanced}
@@ -173,6 +188,10 @@ record State : Type 0 where
 -- the last readers, page and buffers
 abbrev Three : Type 0
 Three = List Reader × (List ℕ × List ℕ)
+
+-- what `write_turn` answers, with the last page
+abbrev WriteAnswer : Type 0
+WriteAnswer = WriteTurn × List ℕ
 
 -- their machine values
 abbrev val : Standing → Val
@@ -221,6 +240,21 @@ module _ {M : Type 1} (𝓤 : URA M) (H : Heap 𝓤) (A : Atoms 𝓤) (W : Given
 
   abbrev Steps : Contract 𝓤
   Steps = tripleOf 𝓤 H A g-step.signature (g-step.spec 𝓤 H A mem run)
+
+  abbrev WritesOns : Contract 𝓤
+  WritesOns = tripleOf 𝓤 H A g-writes-on.signature (g-writes-on.spec 𝓤 H A mem run)
+
+  abbrev StepWrites : Contract 𝓤
+  StepWrites = tripleOf 𝓤 H A g-step-write.signature (g-step-write.spec 𝓤 H A mem run)
+
+  abbrev WroteOns : Contract 𝓤
+  WroteOns = tripleOf 𝓤 H A g-wrote-on.signature (g-wrote-on.spec 𝓤 H A mem run)
+
+  abbrev Decodes : Contract 𝓤
+  Decodes = tripleOf 𝓤 H A g-decode.signature (g-decode.spec 𝓤 H A mem run)
+
+  abbrev Writes : Contract 𝓤
+  Writes = tripleOf 𝓤 H A g-write.signature (g-write.spec 𝓤 H A mem run)
 
 module _ {M : Type 1} (𝓤 : URA M) (H : Heap 𝓤) (A : Atoms 𝓤) (W : Given 𝓤 H A) (mem : Memory → SProp 𝓤)
     (run : Routine → Fun 𝓤) (κs : Lfts 7) (qs : Shares 7) (a : Args f.signature κs) where
@@ -303,10 +337,13 @@ module _ {M : Type 1} (𝓤 : URA M) (H : Heap 𝓤) (A : Atoms 𝓤) (W : Given
       (known-stepper : Triple 𝓤 (𝓣 .C #stepper) (Steppers 𝓤 H A W mem run))
       (known-advance : Triple 𝓤 (𝓣 .C #advance-at) (Advances 𝓤 H A W mem run))
       (known-step : Triple 𝓤 (𝓣 .C #advanced) (Steps 𝓤 H A W mem run))
-      (known-decode : Triple 𝓤 (𝓣 .C #decode) (Decodes 𝓤 H A mem run))
+      (known-writes-on : Triple 𝓤 (𝓣 .C #writes-on) (WritesOns 𝓤 H A W mem run))
+      (known-step-write : Triple 𝓤 (𝓣 .C #step-write) (StepWrites 𝓤 H A W mem run))
+      (known-wrote-on : Triple 𝓤 (𝓣 .C #wrote-on) (WroteOns 𝓤 H A W mem run))
+      (known-decode : Triple 𝓤 (𝓣 .C #decode) (Decodes 𝓤 H A W mem run))
       (known-whose : Triple 𝓤 (𝓣 .C #whose) (Whoses 𝓤 H A mem run))
       (known-turn : Triple 𝓤 (𝓣 .C #turn-at) (TurnsAt 𝓤 H A mem run))
-      (known-write : Triple 𝓤 (𝓣 .C #write-turn) (Writes 𝓤 H A mem run))
+      (known-write : Triple 𝓤 (𝓣 .C #write-turn) (Writes 𝓤 H A W mem run))
       (known-ran : Triple 𝓤 (𝓣 .C #ran-of) (Rans 𝓤 H A mem run)) (asked : Asks F S L) where
     abbrev C : Calls 𝓤 H
     C = 𝓣 .C
@@ -432,6 +469,32 @@ module _ {M : Type 1} (𝓤 : URA M) (H : Heap 𝓤) (A : Atoms 𝓤) (W : Given
                 (round (advanced s) (lent p (z .pen .writer) (y .0) (y .1 .1)) (logged z))) (sym (said .0)) (after-step .0)),
           )
 
+        -- the next, once `step_write` gave a pen and a page
+        module _ (pending : writesOnIn d (z .pen .writer) ≡ true) where
+          may-step-write : WriteReady F S (z .others .0) (z .pen .writer) × (busyWriting (loadWriting (z .pen .writer)) ≡ true)
+          may-step-write = can-write goes (holds-true _ on) (sym lr) pending
+
+          wrote-fits : s .taken + 1 < 18446744073709551616
+          wrote-fits = omega (arith, bytes-left goes (holds-true _ on), room-commands .0)
+
+          abbrev Wrote-on : Pen → List ℕ → Type 0
+          Wrote-on p g =
+              (wrote (Done Nothing) g (p .writer) ≡ writes-of F S (z .others .0) (z .pen .writer) WriterStep) × Knows F p
+
+          module _ (p : Pen) (g : List ℕ) (said : Wrote-on p g) where
+            after-wrote :
+                Going F S cs L (log others .now)
+                (round (wroteOn s) (lent g (p .writer) (z .readers) (z .others .1 .0)) (logged z))
+                × (turnsLeft cs (wroteOn s) < turnsLeft cs s)
+            after-wrote = going-wrote goes (holds-true _ on) (sym lr) pending (said .0)
+
+            abbrev wrote-to : Is TS.the-row (wroteOn s) (val (wroteOn s) ∷ []) → Is TP.the-row p (pen-val p ∷ []) →
+                length g ≡ length (z .others .0) → Loop
+            wrote-to iv ip lp = (
+              record { standing = wroteOn s; pen = p; readers = z .readers; others = g & z .others .1 },
+              (iv & ip & lr & (lp ∙ long .0 & long .1) & said .1 & after-wrote .0),
+            )
+
         -- the next, once `turn_at` gave y
         module _ (low : Holds (ltb who n)) where
           may-read : TurnReady F (z .others .0) (readerAt (z .readers) who) (z .others .1 .0) who d
@@ -473,16 +536,16 @@ module _ {M : Type 1} (𝓤 : URA M) (H : Heap 𝓤) (A : Atoms 𝓤) (W : Given
             no-reader-in goes (holds-true _ on) {d = d} refl (sym lr) refl (nltb→le who n over),
           )
 
-          abbrev After-write : write.Answer → Type 0
+          abbrev After-write : WriteAnswer → Type 0
           After-write y =
               (penTurn (y .0 .standing) (y .1) (y .0 .pen .writer) ≡ writeTurn F S (z .others .0) (z .pen .writer) d s)
               × Knows F (y .0 .pen)
 
-          abbrev write-state : write.Answer → State
+          abbrev write-state : WriteAnswer → State
           write-state y =
               record { standing = y .0 .standing; pen = y .0 .pen; readers = z .readers; others = y .1 & z .others .1 }
 
-          module _ (y : write.Answer) (said : After-write y) where
+          module _ (y : WriteAnswer) (said : After-write y) where
             after-write :
                 Going F S cs L (log others .now)
                 (round (y .0 .standing) (lent (y .1) (y .0 .pen .writer) (z .readers) (z .others .1 .0)) (logged z))
@@ -542,12 +605,22 @@ module _ {M : Type 1} (𝓤 : URA M) (H : Heap 𝓤) (A : Atoms 𝓤) (W : Given
       abbrev answer : Body
       answer = after (after advancing)
 
-      -- the statements of its arms, and those after the command is known
+      -- the statements of its arms; in the second the test of the writer's step, and its arms; and those after the command is
+      -- known
       abbrev step-arm : Body
       step-arm = if-held answer
 
+      abbrev other-arm : Body
+      other-arm = if-failed answer
+
+      abbrev write-test : Body
+      write-test = after other-arm
+
+      abbrev write-step-arm : Body
+      write-step-arm = if-held write-test
+
       abbrev turn-arm : Body
-      turn-arm = if-failed answer
+      turn-arm = if-failed write-test
 
       abbrev asking : Body
       asking = after turn-arm
@@ -595,10 +668,48 @@ module _ {M : Type 1} (𝓤 : URA M) (H : Heap 𝓤) (A : Atoms 𝓤) (W : Given
             ‵ (flft (αs .0 ∷ []) fullShare) ⊛ (raw (turn-rest.Tokens 𝓤 H A turn-κs turn-qs) ⊛
             (‵ (finally R (δs .0) (y .1 .0)) ⊛ ‵ (turn-rest.Last lent-others (y .1 .1))))
 
+      -- at which lifetimes and shares the page is lent to `step_write` and `write_turn`, and what they get
+      abbrev page-κs : ℕ → Lfts 3
+      page-κs = loan.page-κs (κs .1) (qs .1) (a .0) others
+
+      abbrev page-qs : Shares 3
+      page-qs = loan.page-qs (κs .1) (qs .1) (a .0) others
+
+      module _ (i : Loop) (α : ℕ) (δ : GName) where
+        abbrev lent-page : RefT (List ℕ)
+        lent-page = anew u8 (page others) δ (z i .others .0)
+
+        abbrev to-step-write : StepWrites 𝓤 H A W mem run .Ghost
+        to-step-write = (
+          (
+            page-κs α,
+            page-qs,
+            tt,
+            (others .0, (others .1 .0, (lent-page, (records others, (z i .pen, tt))))),
+            (LL.vals TF.the-type TF′.the-laws (others .0) & slice-vals (others .1 .0) & slice-vals lent-page &
+                slice-vals (records others) & (pen-val (z i .pen) ∷ []) & tt),
+          ),
+          tt,
+        )
+
+        abbrev to-write : Writes 𝓤 H A W mem run .Ghost
+        to-write = (
+          (
+            page-κs α,
+            page-qs,
+            tt,
+            (others .0, (others .1 .0, (lent-page, (z i .pen, (records others, (d i, (s i, tt))))))),
+            (LL.vals TF.the-type TF′.the-laws (others .0) & slice-vals (others .1 .0) & slice-vals lent-page &
+                (pen-val (z i .pen) ∷ []) & slice-vals (records others) & (decoded-val (d i) ∷ []) & (val (s i) ∷ []) & tt),
+          ),
+          tt,
+        )
+
       -- the locals that hold the loans to `turn_at`, and those before them
       abbrev loans : Loop → List Slot
       loans i =
-          free ∷ free ∷ free ∷ free ∷ free ∷ free ∷ free ∷ free ∷ free ∷ free ∷ has (vptr (a .0 .ptr .0) (a .0 .ptr .1)) ∷
+          free ∷ free ∷ free ∷ free ∷ free ∷ free ∷ free ∷ free ∷ free ∷ free ∷ free ∷ free ∷ free ∷
+          has (vptr (a .0 .ptr .0) (a .0 .ptr .1)) ∷
           has (sliceVal (a .0 .ptr) (length (z i .readers))) ∷
           has (vptr (page others .ptr .0) (page others .ptr .1)) ∷
           has (sliceVal (page others .ptr) (length (z i .others .0))) ∷
@@ -640,7 +751,7 @@ module _ {M : Type 1} (𝓤 : URA M) (H : Heap 𝓤) (A : Atoms 𝓤) (W : Given
             counts i on .1,
             counts i on .0,
           ))
-          (arg ! 32 refl (arg ! 20 refl (arg ! 5 refl (arg ! 6 refl (arg ! 34 refl (arg ! 36 refl (arg ! 38 refl
+          (arg ! 35 refl (arg ! 20 refl (arg ! 5 refl (arg ! 6 refl (arg ! 37 refl (arg ! 39 refl (arg ! 41 refl
           (arg ! 19 refl (arg ! 15 refl (no-more !))))))))))
           (λ u. some (λ (y : turn.Answer). given (turn.Told (lent-readers i αs δs) (who i) (lent-others i αs δs) y u)
           (Gives i αs δs y)))
@@ -652,8 +763,8 @@ module _ {M : Type 1} (𝓤 : URA M) (H : Heap 𝓤) (A : Atoms 𝓤) (W : Given
           come-turn (κs .1) (qs .1) (a .0) others ! tt αs δs (d i) (s i) (z i .readers) (y .1 .0) (z i .others) (y .1 .1) $
           answers-last ! (is-val (y .0) u (told .0)) $
           land-last ! (from ! (stop !)) (store ! 15 refl (typed (y .0) (as-val (y .0) u (told .0)))) $
-          forget ! 19 refl $ forget ! 20 refl $ forget ! 31 refl $ forget ! 32 refl $ forget ! 33 refl $
-          forget ! 34 refl $ forget ! 35 refl $ forget ! 36 refl $ forget ! 37 refl $ forget ! 38 refl $
+          forget ! 19 refl $ forget ! 20 refl $ forget ! 34 refl $ forget ! 35 refl $ forget ! 36 refl $
+          forget ! 37 refl $ forget ! 38 refl $ forget ! 39 refl $ forget ! 40 refl $ forget ! 41 refl $
           again ! Nearer At i (read-to i on low y (told .1 .1 .1) u (told .0) (told .1 .0) (told .1 .1 .0))
           (after-read i on low y (told .1 .1 .1) .1)))))
 
@@ -662,92 +773,200 @@ module _ {M : Type 1} (𝓤 : URA M) (H : Heap 𝓤) (A : Atoms 𝓤) (W : Given
           Is TD.the-row (d i) (decoded-val (d i) ∷ []) → who i < 2 ^ 64
           → Sq W (Asked i) (runs C Λ E reader-arm (anyQ (Turned-to i)))
       reads i on low is-d small =
-          lends-on ! 4 31 32 (room .0) refl refl refl refl refl refl $
-          lends-on ! 7 33 34 (room-page .0) refl refl refl refl refl refl $
-          lends-on ! 9 35 36 (room-buffers .0) refl refl refl refl refl refl $
-          lends-on ! 12 37 38 (room-log .0) refl refl refl refl refl refl $
-          rewrite ! 32 (holds 29 (a .0 .ptr)) (sym (lr i)) refl $
-          rewrite ! 34 (holds 31 (page others .ptr)) (sym (long i .0)) refl $
-          rewrite ! 36 (holds 33 (buffers others .ptr)) (sym (long i .1 .0)) refl $
-          rewrite ! 38 (holds 35 (log others .ptr)) (sym (long i .1 .1)) refl $ calls-turn i on low is-d small
+          lends-on ! 4 34 35 (room .0) refl refl refl refl refl refl $
+          lends-on ! 7 36 37 (room-page .0) refl refl refl refl refl refl $
+          lends-on ! 9 38 39 (room-buffers .0) refl refl refl refl refl refl $
+          lends-on ! 12 40 41 (room-log .0) refl refl refl refl refl refl $
+          rewrite ! 35 (holds 32 (a .0 .ptr)) (sym (lr i)) refl $
+          rewrite ! 37 (holds 34 (page others .ptr)) (sym (long i .0)) refl $
+          rewrite ! 39 (holds 36 (buffers others .ptr)) (sym (long i .1 .0)) refl $
+          rewrite ! 41 (holds 38 (log others .ptr)) (sym (long i .1 .1)) refl $ calls-turn i on low is-d small
 
       -- the page is lent to `write_turn`
-      writes : (i : Loop) → Holds (going (s i) k) → Holds (not (ltb (who i) n)) →
-          Is TD.the-row (d i) (decoded-val (d i) ∷ [])
+      writes : (i : Loop) → Holds (going (s i) k) → writesOnIn (d i) (z i .pen .writer) ≡ false →
+          Holds (not (ltb (who i) n)) → Is TD.the-row (d i) (decoded-val (d i) ∷ [])
           → Sq W (Asked i) (runs C Λ E writer-arm (anyQ (Turned-to i)))
       unfolding afterTurn
-      writes i on over is-d =
-          lends-on ! 7 39 40 (room-page .0) refl refl refl refl refl refl $
-          rewrite ! 40 (holds 37 (page others .ptr)) (sym (long i .0)) refl $
-          relends-write (κs .1) (qs .1) (a .0) others ! tt (z i .pen) (d i) (s i) (z i .readers) (z i .others)
-          (subst (Room u8) (sym (long i .0)) room-page) (are .1 .0) (is-p i) is-d (is i) (λ α δ.
-          let a′ = loan.writing (κs .1) (qs .1) (a .0) others δ (z i .pen) (d i) (s i) (z i .others .0) in
-          let κs′ = loan.write-κs (κs .1) (qs .1) (a .0) others α in
-          let qs′ = loan.write-qs (κs .1) (qs .1) (a .0) others in
+      writes i on none over is-d =
+          lends-on ! 7 42 43 (room-page .0) refl refl refl refl refl refl $
+          rewrite ! 43 (holds 40 (page others .ptr)) (sym (long i .0)) refl $
+          relends-page (κs .1) (qs .1) (a .0) others ! tt (z i .readers) (z i .others)
+          (subst (Room u8) (sym (long i .0)) room-page) (λ α δ.
           -- [what `write_turn` gets; what the lender keeps; what shuts all; _0; …]
-          calls-with ! (fmOf 𝓤 H (W .laws) 𝓣) (Writes 𝓤 H A mem run) known-write (to-write 𝓤 H A mem run κs′ qs′ a′)
-          (goes-write 𝓤 H A mem run κs′ qs′ a′ W
-          (may-write i on over .0, knows i, may-write i on over .1, counts i on .0))
-          (arg ! 5 refl (arg ! 6 refl (arg ! 40 refl (arg ! 16 refl (arg ! 10 refl (arg ! 19 refl (arg ! 15 refl
+          lends ! (fmOf 𝓤 H (W .laws) 𝓣) (Writes 𝓤 H A W mem run) known-write (to-write i α δ)
+          (asked-if 𝓤 H A W 3 (page-κs α) page-qs (typesAt (g-write.signature .params) (page-κs α))
+          (to-write i α δ .0 .3) (to-write i α δ .0 .4)
+          (made (LL.makes TF.the-type TF′.the-plain 𝓤 H A) (are .1 .0) & lent-as & lent-as &
+          made (LL.makes TP.the-type TP′.the-plain 𝓤 H A) (is-p i) & lent-as &
+          made (EL.makes TD.the-type TD′.the-plain 𝓤 H A) is-d &
+          made (LL.makes TS.the-type TS′.the-plain 𝓤 H A) (is i) & tt)
+          (may-write i on over .0, knows i, may-write i on over .1, none, counts i on .0))
+          (arg ! 5 refl (arg ! 6 refl (arg ! 43 refl (arg ! 16 refl (arg ! 10 refl (arg ! 19 refl (arg ! 15 refl
           (no-more !))))))))
-          (λ u. some (λ (y : write.Answer). given (write.Told a′ y u) (raw (toks 𝓤 A 3 κs′ qs′) ⊛
-          ‵ (write.Last a′ (y .1)))))
-          (write-gives 𝓤 H A mem run κs′ qs′ a′ W) (λ u. pick ! (λ y. learn ! (λ told. split ! $
-          -- [the tokens; the last page; what is kept; what shuts all; _0; …]
-          come-write (κs .1) (qs .1) (a .0) others ! tt α δ (z i .readers) (z i .others) (y .1) $
-          answers ! (is-turn (y .0) u (told .0)) $
+          TT.the-row (lasts g-write.ended (page-κs α) (to-write i α δ .0 .3)) _ (λ u. id⊢ 𝓤 _) (λ u r ls it say.
+          let y : WriteAnswer = (r, ls .1 .1 .0) in
+          fsplit ! $ drop ! $ fsplit ! $ drop ! $ fsplit ! $ fsplit ! $ move ! (1 ∷ []) $ feqL ! (λ lp.
+          -- [the last page; of the others; the tokens; what is kept; what shuts all; _0; …]
+          move ! (1 ∷ []) $ drop ! $ move ! (1 ∷ 0 ∷ []) $
+          come-page (κs .1) (qs .1) (a .0) others ! tt α δ (z i .readers) (z i .others) (y .1) $
+          answers ! (is-turn (y .0) u it) $
           land ! (from ! (stop !)) (init ! 21 refl (LL.lawful TT.the-type TT′.the-laws 𝓤 H A W .typed (y .0)
-          (turn-val (y .0) ∷ []) (as-turn (y .0) u (told .0)) .0)) $
+          (turn-val (y .0) ∷ []) (as-turn (y .0) u it) .0)) $
           assigns ! (of-opd ! (load ! (from ! (fld ! refl (stop !))) (look-in ! 21 (sub ! 0 refl (whole !)))))
-          (from ! (stop !)) (store ! 15 refl (typed (y .0 .standing) (is-standing y u (told .0)))) $
+          (from ! (stop !)) (store ! 15 refl (typed (y .0 .standing) (is-standing y u it))) $
           assigns-last ! (of-opd ! (load ! (from ! (fld ! refl (stop !))) (look-in ! 21 (sub ! 1 refl (whole !)))))
-          (from ! (stop !)) (store ! 16 refl (typed-pen (y .0 .pen) (is-penned y u (told .0)))) $
-          forget ! 19 refl $ forget ! 20 refl $ forget ! 21 refl $ forget ! 39 refl $ forget ! 40 refl $
-          again ! Nearer At i (write-to i on over y (told .1 .1) (is-standing y u (told .0)) (is-penned y u (told .0))
-          (told .1 .0)) (after-write i on over y (told .1 .1) .1)))))
+          (from ! (stop !)) (store ! 16 refl (typed-pen (y .0 .pen) (is-penned y u it))) $
+          forget ! 19 refl $ forget ! 20 refl $ forget ! 21 refl $ forget ! 42 refl $ forget ! 43 refl $
+          again ! Nearer At i (write-to i on over y say (is-standing y u it) (is-penned y u it) lp)
+          (after-write i on over y say .1))))
         where
-          is-standing : (y : write.Answer) (u : Val) → Is TT.the-row (y .0) (u ∷ []) →
+          is-standing : (y : WriteAnswer) (u : Val) → Is TT.the-row (y .0) (u ∷ []) →
               Is TS.the-row (y .0 .standing) (val (y .0 .standing) ∷ [])
           is-standing y u it = LL.owed TT.the-type TT′.the-laws (y .0) (u ∷ []) it .0
 
-          is-penned : (y : write.Answer) (u : Val) → Is TT.the-row (y .0) (u ∷ []) →
+          is-penned : (y : WriteAnswer) (u : Val) → Is TT.the-row (y .0) (u ∷ []) →
               Is TP.the-row (y .0 .pen) (pen-val (y .0 .pen) ∷ [])
           is-penned y u it = LL.owed TT.the-type TT′.the-laws (y .0) (u ∷ []) it .1 .0
 
       -- whose command it is
-      forks : (i : Loop) → Holds (going (s i) k) → Is TD.the-row (d i) (decoded-val (d i) ∷ []) →
+      forks : (i : Loop) → Holds (going (s i) k) → writesOnIn (d i) (z i .pen .writer) ≡ false →
+          Is TD.the-row (d i) (decoded-val (d i) ∷ []) →
           Sq W (Lying (z i) ∷ Sharing ∷ Shutting ∷
           locals 𝓤 H E (slots free (z i) ++ (free ∷ free ∷ has (decoded-val (d i)) ∷ [])))
           (runs C Λ E asking (anyQ (Turned-to i)))
-      forks i on is-d =
+      forks i on none is-d =
           nothing ! $ calls-with ! (fmOf 𝓤 H (W .laws) 𝓣) (Whoses 𝓤 H A mem run) known-whose
           (to-whose 𝓤 H A mem run (d i) n) (goes-whose 𝓤 H A mem run (d i) n W is-d (room .0))
           (arg ! 20 refl (arg ! 14 refl (no-more !))) (λ u. given (Is usize (who i) (u ∷ [])) (‵ ftrue))
           (whose-gives 𝓤 H A mem run (d i) n W) (λ u. learn ! (λ iw. drop ! $ answers ! (ap only (iw .0)) $
           land ! (from ! (stop !)) (init ! 20 refl (tt, record { fits = iw .1 })) $
           assigns ! (bin ! (load ! (from ! (stop !)) (look ! 20 refl)) (load ! (from ! (stop !)) (look ! 13 refl)) tt)
-          (from ! (stop !)) (init ! 30 refl (tt, tt)) $
-          branches ! (load ! (from ! (stop !)) (look ! 30 refl))
-          (λ low. forget ! 30 refl $ reads i on low is-d (iw .1))
-          (λ over. forget ! 30 refl $ writes i on over is-d)))
+          (from ! (stop !)) (init ! 33 refl (tt, tt)) $
+          branches ! (load ! (from ! (stop !)) (look ! 33 refl))
+          (λ low. forget ! 33 refl $ reads i on low is-d (iw .1))
+          (λ over. forget ! 33 refl $ writes i on none over is-d)))
+
+      -- at which lifetime and share the commands are lent, and what `stepper`, `writes_on` and `decode` get
+      abbrev script-κs : Lfts 1
+      script-κs = loan.script-κs (κs .1) (qs .1) others
+
+      abbrev script-qs : Shares 1
+      script-qs = loan.script-qs (κs .1) (qs .1) others
+
+      module _ (i : Loop) where
+        abbrev to-stepper : Steppers 𝓤 H A W mem run .Ghost
+        to-stepper = (
+          (
+            script-κs,
+            script-qs,
+            tt,
+            (commands others, (s i .taken, (n, tt))),
+            (slice-vals (commands others) & (vint w64 (s i .taken) ∷ []) & (vint w64 n ∷ []) & tt),
+          ),
+          tt,
+        )
+
+        abbrev to-writes-on : WritesOns 𝓤 H A W mem run .Ghost
+        to-writes-on = (
+          (
+            script-κs,
+            script-qs,
+            tt,
+            (commands others, (s i .taken, (z i .pen .writer, tt))),
+            (slice-vals (commands others) & (vint w64 (s i .taken) ∷ []) &
+                LL.vals TW.the-type TW′.the-laws (z i .pen .writer) & tt),
+          ),
+          tt,
+        )
+
+        abbrev to-decode : Decodes 𝓤 H A W mem run .Ghost
+        to-decode = (
+          (
+            script-κs,
+            script-qs,
+            tt,
+            (commands others, (s i .taken, tt)),
+            (slice-vals (commands others) & (vint w64 (s i .taken) ∷ []) & tt),
+          ),
+          tt,
+        )
 
       -- the command is decoded
-      decodes : (i : Loop) → Holds (going (s i) k) → Sq W (At i) (runs C Λ E turn-arm (anyQ (Turned-to i)))
-      decodes i on =
+      decodes : (i : Loop) → Holds (going (s i) k) → writesOnIn (d i) (z i .pen .writer) ≡ false →
+          Sq W (At i) (runs C Λ E turn-arm (anyQ (Turned-to i)))
+      decodes i on none =
           move ! (1 ∷ []) $ lends-script (κs .1) (qs .1) (a .0) others ! tt $
           -- [what `decode` gets; what else is shared; all that lies there; what shuts all; _0; …]
-          calls-with ! (fmOf 𝓤 H (W .laws) 𝓣) (Decodes 𝓤 H A mem run) known-decode
-          (to-decode 𝓤 H A mem run (κc (κs .1) (qs .1) others) (qc (κs .1) (qs .1) others) (commands others) (s i .taken))
-          (goes-decode 𝓤 H A mem run (κc (κs .1) (qs .1) others) (qc (κs .1) (qs .1) others) (commands others)
-          (s i .taken) W (LL.owed TS.the-type TS′.the-laws (s i) _ (is i) .1 .0 .1))
+          asks ! (fmOf 𝓤 H (W .laws) 𝓣) (Decodes 𝓤 H A W mem run) known-decode (to-decode i)
+          (asked-of 𝓤 H A W 1 script-κs script-qs (typesAt (g-decode.signature .params) script-κs) (to-decode i .0 .3)
+          (to-decode i .0 .4)
+          (lent-as & made (uint-makes 𝓤 H A W w64) (LL.owed TS.the-type TS′.the-laws (s i) _ (is i) .1 .0) & tt))
           (arg ! 12 refl (and-then ! (load ! (from ! (fld ! refl (stop !))) (look-in ! 16 (sub ! 1 refl (whole !))))
           (no-more !)))
-          (λ u. given (Is TD.the-row (d i) (u ∷ [])) (‵ (loan.Alive (κs .1) (qs .1) others)))
-          (decode-gives 𝓤 H A mem run (κc (κs .1) (qs .1) others) (qc (κs .1) (qs .1) others) (commands others)
-          (s i .taken) W) (λ u. learn ! (λ id. script-back (κs .1) (qs .1) (a .0) others ! tt $ move ! (1 ∷ 0 ∷ []) $
+          (λ u. told 𝓤 H A W TD.the-row (d i) u (toks 𝓤 A 1 script-κs script-qs)
+          (lasts g-decode.ended script-κs (to-decode i .0 .3))) (λ u id.
+          script-back (κs .1) (qs .1) (a .0) others ! tt $ move ! (1 ∷ 0 ∷ []) $
           answers ! (is-decoded (d i) u id) $
           land ! (from ! (stop !)) (init ! 19 refl (EL.lawful TD.the-type TD′.the-laws 𝓤 H A W tt .typed (d i)
-          (decoded-val (d i) ∷ []) (as-decoded (d i) u id) .0)) $ forks i on (as-decoded (d i) u id)))
+          (decoded-val (d i) ∷ []) (as-decoded (d i) u id) .0)) $ forks i on none (as-decoded (d i) u id))
+
+      -- the page is lent to `step_write`
+      steps-write : (i : Loop) → Holds (going (s i) k) → writesOnIn (d i) (z i .pen .writer) ≡ true
+          → Sq W (At i) (runs C Λ E write-step-arm (anyQ (Turned-to i)))
+      unfolding afterTurn
+      steps-write i on pending =
+          lends-on ! 7 31 32 (room-page .0) refl refl refl refl refl refl $
+          rewrite ! 32 (holds 29 (page others .ptr)) (sym (long i .0)) refl $
+          relends-page (κs .1) (qs .1) (a .0) others ! tt (z i .readers) (z i .others)
+          (subst (Room u8) (sym (long i .0)) room-page) (λ α δ.
+          -- [what `step_write` gets; what the lender keeps; what shuts all; _0; …]
+          lends ! (fmOf 𝓤 H (W .laws) 𝓣) (StepWrites 𝓤 H A W mem run) known-step-write (to-step-write i α δ)
+          (asked-if 𝓤 H A W 3 (page-κs α) page-qs (typesAt (g-step-write.signature .params) (page-κs α))
+          (to-step-write i α δ .0 .3) (to-step-write i α δ .0 .4)
+          (made (LL.makes TF.the-type TF′.the-plain 𝓤 H A) (are .1 .0) & lent-as & lent-as & lent-as &
+          made (LL.makes TP.the-type TP′.the-plain 𝓤 H A) (is-p i) & tt)
+          (may-step-write i on pending .0, knows i, may-step-write i on pending .1))
+          (arg ! 5 refl (arg ! 6 refl (arg ! 32 refl (arg ! 10 refl (arg ! 16 refl (no-more !))))))
+          TP.the-row (lasts g-step-write.ended (page-κs α) (to-step-write i α δ .0 .3)) _ (λ u. id⊢ 𝓤 _) (λ u p ls it say.
+          let g : List ℕ = ls .1 .1 .0 in
+          fsplit ! $ drop ! $ fsplit ! $ drop ! $ fsplit ! $ fsplit ! $ move ! (1 ∷ []) $ feqL ! (λ lp.
+          -- [the last page; of the others; the tokens; what is kept; what shuts all; _0; …]
+          move ! (1 ∷ []) $ drop ! $ move ! (1 ∷ 0 ∷ []) $
+          come-page (κs .1) (qs .1) (a .0) others ! tt α δ (z i .readers) (z i .others) g $
+          answers ! (is-pen p u it) $
+          land ! (from ! (stop !)) (store ! 16 refl (typed-pen p (as-pen p u it))) $
+          nothing ! $ nothing ! $ join ! $
+          calls-with-last ! (fmOf 𝓤 H (W .laws) 𝓣) (WroteOns 𝓤 H A W mem run) known-wrote-on
+          ((tt, tt, tt, (s i, tt), (val (s i) ∷ [], tt)), tt)
+          (asked-if 𝓤 H A W 0 tt tt (typesAt (g-wrote-on.signature .params) tt) (s i, tt) (val (s i) ∷ [], tt)
+          (made (LL.makes TS.the-type TS′.the-plain 𝓤 H A) (is i) & tt) (counts i on .0, wrote-fits i on pending))
+          (arg ! 16 refl (no-more !)) (λ u. given (Is TS.the-row (wroteOn (s i)) (u ∷ [])) (‵ ftrue))
+          (λ u. told 𝓤 H A W TS.the-row (wroteOn (s i)) u (emp 𝓤) (lasts g-wrote-on.ended tt (s i, tt))) (λ v.
+          learn ! (λ iv. drop ! $ answers-last ! (is-val (wroteOn (s i)) v iv) $
+          land-last ! (from ! (stop !)) (store ! 15 refl (typed (wroteOn (s i)) (as-val (wroteOn (s i)) v iv))) $
+          forget ! 31 refl $ forget ! 32 refl $
+          again ! Nearer At i (wrote-to i on pending p g say (as-val (wroteOn (s i)) v iv) (as-pen p u it) lp)
+          (after-wrote i on pending p g say .1))))))
+
+      -- is the command the next step of a pending write?
+      tests-write : (i : Loop) → Holds (going (s i) k) → Sq W (At i) (runs C Λ E other-arm (anyQ (Turned-to i)))
+      tests-write i on =
+          move ! (1 ∷ []) $ lends-script (κs .1) (qs .1) (a .0) others ! tt $
+          asks ! (fmOf 𝓤 H (W .laws) 𝓣) (WritesOns 𝓤 H A W mem run) known-writes-on (to-writes-on i)
+          (asked-if 𝓤 H A W 1 script-κs script-qs (typesAt (g-writes-on.signature .params) script-κs)
+          (to-writes-on i .0 .3) (to-writes-on i .0 .4)
+          (lent-as & made (uint-makes 𝓤 H A W w64) (LL.owed TS.the-type TS′.the-laws (s i) _ (is i) .1 .0) &
+          made (LL.makes TW.the-type TW′.the-plain 𝓤 H A) (LL.owed TP.the-type TP′.the-laws (z i .pen) _ (is-p i) .0) & tt)
+          (bytes-left (goes i) (holds-true _ on)))
+          (arg ! 12 refl (and-then ! (load ! (from ! (fld ! refl (stop !))) (look-in ! 16 (sub ! 1 refl (whole !))))
+          (and-then ! (load ! (from ! (fld ! refl (stop !))) (look-in ! 17 (sub ! 0 refl (whole !)))) (no-more !))))
+          (λ u. told 𝓤 H A W Boolean (writesOnIn (d i) (z i .pen .writer)) u (toks 𝓤 A 1 script-κs script-qs)
+          (lasts g-writes-on.ended script-κs (to-writes-on i .0 .3))) (λ u it.
+          script-back (κs .1) (qs .1) (a .0) others ! tt $ move ! (1 ∷ 0 ∷ []) $
+          answers ! (ap only it) $ land ! (from ! (stop !)) (init ! 30 refl (tt, tt)) $
+          branches ! (load ! (from ! (stop !)) (look ! 30 refl))
+          (λ yes. forget ! 30 refl $ steps-write i on (holds-true _ yes))
+          (λ no. forget ! 30 refl $ decodes i on (holds-false _ no)))
 
       -- what `advance_at` is lent in the turn from i
       module _ (i : Loop) (αs : ℕ × (ℕ × ℕ)) (δs : GName × (GName × GName)) where
@@ -845,22 +1064,21 @@ module _ {M : Type 1} (𝓤 : URA M) (H : Heap 𝓤) (A : Atoms 𝓤) (W : Given
           rewrite ! 0 (λ (b : List ℕ).
           ‵ (Lies (κs .1) (qs .1) (a .0) others (z i .readers) (z i .others .0 & b & logged (z i)))) (same .1) refl $
           forget ! 17 refl $ forget ! 18 refl $ forget ! 23 refl $ forget ! 24 refl $ forget ! 25 refl $
-          forget ! 26 refl $ forget ! 27 refl $ forget ! 28 refl $ forget ! 29 refl $ decodes i on))))))
+          forget ! 26 refl $ forget ! 27 refl $ forget ! 28 refl $ forget ! 29 refl $ tests-write i on))))))
 
       -- whose step the command is, if it is one
       advances : (i : Loop) → Holds (going (s i) k) → Sq W (At i) (runs C Λ E tested (anyQ (Turned-to i)))
       advances i on =
-          move ! (1 ∷ []) $ lends-script (κs .1) (qs .1) (a .0) others ! tt $ split ! $ fsplit ! $
-          -- [commands' token; none; the commands; what else is shared; all that lies there; what shuts all; _0; …]
-          move ! (2 ∷ 1 ∷ []) $ fjoin ! $ move ! (1 ∷ []) $ binds ! 1 κs′ qs′ $ join ! $
-          asks ! (fmOf 𝓤 H (W .laws) 𝓣) (Steppers 𝓤 H A W mem run) known-stepper to-stepper
-          (asked-if 𝓤 H A W 1 κs′ qs′ (typesAt (g-stepper.signature .params) κs′) (to-stepper .0 .3) (to-stepper .0 .4)
+          move ! (1 ∷ []) $ lends-script (κs .1) (qs .1) (a .0) others ! tt $
+          asks ! (fmOf 𝓤 H (W .laws) 𝓣) (Steppers 𝓤 H A W mem run) known-stepper (to-stepper i)
+          (asked-if 𝓤 H A W 1 script-κs script-qs (typesAt (g-stepper.signature .params) script-κs) (to-stepper i .0 .3)
+          (to-stepper i .0 .4)
           (lent-as & made (uint-makes 𝓤 H A W w64) (LL.owed TS.the-type TS′.the-laws (s i) _ (is i) .1 .0) &
           made (uint-makes 𝓤 H A W w64) (refl, room .0) & tt) (bytes-left (goes i) (holds-true _ on)))
           (arg ! 12 refl (and-then ! (load ! (from ! (fld ! refl (stop !))) (look-in ! 16 (sub ! 1 refl (whole !))))
           (arg ! 14 refl (no-more !))))
-          (λ u. told 𝓤 H A W usize (steps i) u (toks 𝓤 A 1 κs′ qs′) (lasts g-stepper.ended κs′ (to-stepper .0 .3))) (λ u iw.
-          unbinds ! 1 κs′ qs′ $ nothing ! $ move ! (1 ∷ 0 ∷ []) $ fjoin ! $
+          (λ u. told 𝓤 H A W usize (steps i) u (toks 𝓤 A 1 script-κs script-qs)
+          (lasts g-stepper.ended script-κs (to-stepper i .0 .3))) (λ u iw.
           script-back (κs .1) (qs .1) (a .0) others ! tt $ move ! (1 ∷ 0 ∷ []) $
           answers ! (ap only (iw .0)) $ land ! (from ! (stop !)) (init ! 17 refl (tt, record { fits = iw .1 })) $
           lends-on ! 4 23 24 (room .0) refl refl refl refl refl refl $
@@ -869,24 +1087,6 @@ module _ {M : Type 1} (𝓤 : URA M) (H : Heap 𝓤) (A : Atoms 𝓤) (W : Given
           rewrite ! 24 (holds 21 (a .0 .ptr)) (sym (lr i)) refl $
           rewrite ! 26 (holds 23 (page others .ptr)) (sym (long i .0)) refl $
           rewrite ! 28 (holds 25 (buffers others .ptr)) (sym (long i .1 .0)) refl $ calls-advance i on (iw .1))
-        where
-          κs′ : Lfts 1
-          κs′ = (κc (κs .1) (qs .1) others, tt)
-
-          qs′ : Shares 1
-          qs′ = (qc (κs .1) (qs .1) others, tt)
-
-          to-stepper : Steppers 𝓤 H A W mem run .Ghost
-          to-stepper = (
-            (
-              κs′,
-              qs′,
-              tt,
-              (commands others, (s i .taken, (n, tt))),
-              (slice-vals (commands others) & (vint w64 (s i .taken) ∷ []) & (vint w64 n ∷ []) & tt),
-            ),
-            tt,
-          )
 
       turns : (i : Loop) → Sq W (At i) (runs C Λ E code-mir.turn-1 (anyQ (Turned-to i)))
       unfolding afterTurn
@@ -942,10 +1142,13 @@ module _ {M : Type 1} (𝓤 : URA M) (H : Heap 𝓤) (A : Atoms 𝓤) (W : Given
     (known-stepper : Triple 𝓤 (𝓣 .C #stepper) (Steppers 𝓤 H A W mem run))
     (known-advance : Triple 𝓤 (𝓣 .C #advance-at) (Advances 𝓤 H A W mem run))
     (known-step : Triple 𝓤 (𝓣 .C #advanced) (Steps 𝓤 H A W mem run))
-    (known-decode : Triple 𝓤 (𝓣 .C #decode) (Decodes 𝓤 H A mem run))
+    (known-writes-on : Triple 𝓤 (𝓣 .C #writes-on) (WritesOns 𝓤 H A W mem run))
+    (known-step-write : Triple 𝓤 (𝓣 .C #step-write) (StepWrites 𝓤 H A W mem run))
+    (known-wrote-on : Triple 𝓤 (𝓣 .C #wrote-on) (WroteOns 𝓤 H A W mem run))
+    (known-decode : Triple 𝓤 (𝓣 .C #decode) (Decodes 𝓤 H A W mem run))
     (known-whose : Triple 𝓤 (𝓣 .C #whose) (Whoses 𝓤 H A mem run))
     (known-turn : Triple 𝓤 (𝓣 .C #turn-at) (TurnsAt 𝓤 H A mem run))
-    (known-write : Triple 𝓤 (𝓣 .C #write-turn) (Writes 𝓤 H A mem run))
+    (known-write : Triple 𝓤 (𝓣 .C #write-turn) (Writes 𝓤 H A W mem run))
     (known-ran : Triple 𝓤 (𝓣 .C #ran-of) (Rans 𝓤 H A mem run)) where
   walks : Walks 𝓤 H A f.ended stayed (WpFn 𝓤 H (𝓣 .C) (𝓣 .Λ) code.function) (f.clauses 𝓤 H A mem run)
   walks =
@@ -954,7 +1157,7 @@ module _ {M : Type 1} (𝓤 : URA M) (H : Heap 𝓤) (A : Atoms 𝓤) (W : Given
       (λ κs qs bounds a _ are. needs 𝓤 (Asks (form (a .1)) (records (a .1) .now)
       (lent (page (a .1) .now) (writer (a .1)) (a .0 .now) (buffers (a .1) .now))) _ (λ h.
       walk 𝓤 H A W mem run κs qs a are 𝓣 known-first known-dry known-goes known-stepper known-advance known-step
-      known-decode known-whose known-turn known-write known-ran h))
+      known-writes-on known-step-write known-wrote-on known-decode known-whose known-turn known-write known-ran h))
 
   run-all-meets : Meets 𝓤 H A f.signature (WpFn 𝓤 H (𝓣 .C) (𝓣 .Λ) code.function) (f.spec 𝓤 H A mem run)
   run-all-meets =
@@ -980,13 +1183,19 @@ run-all-spec 𝓤 H 𝓜 𝓖 𝓡 =
     (advance-thm.met 𝓤 H 𝓜 𝓖 𝓡))
     (cited 𝓤 H (Steps 𝓤 H (𝓖 .A) (givenOf 𝓤 H 𝓜 𝓖) (𝓜 .mem)
     (𝓡 .run)) 𝓜 𝓡 code.env #advanced step-def.routine code.calls-page·looping·advanced (step-thm.met 𝓤 H 𝓜 𝓖 𝓡))
-    (cited 𝓤 H (Decodes 𝓤 H (𝓖 .A) (𝓜 .mem)
+    (cited 𝓤 H (WritesOns 𝓤 H (𝓖 .A) (givenOf 𝓤 H 𝓜 𝓖) (𝓜 .mem)
+    (𝓡 .run)) 𝓜 𝓡 code.env #writes-on writes-on-def.routine code.calls-page·turning·writes-on (writes-on-thm.met 𝓤 H 𝓜 𝓖 𝓡))
+    (cited 𝓤 H (StepWrites 𝓤 H (𝓖 .A) (givenOf 𝓤 H 𝓜 𝓖) (𝓜 .mem)
+    (𝓡 .run)) 𝓜 𝓡 code.env #step-write step-write-def.routine code.calls-page·write-step·step-write (step-write-thm.met 𝓤 H 𝓜 𝓖 𝓡))
+    (cited 𝓤 H (WroteOns 𝓤 H (𝓖 .A) (givenOf 𝓤 H 𝓜 𝓖) (𝓜 .mem)
+    (𝓡 .run)) 𝓜 𝓡 code.env #wrote-on wrote-on-def.routine code.calls-page·looping·wrote-on (wrote-on-thm.met 𝓤 H 𝓜 𝓖 𝓡))
+    (cited 𝓤 H (Decodes 𝓤 H (𝓖 .A) (givenOf 𝓤 H 𝓜 𝓖) (𝓜 .mem)
     (𝓡 .run)) 𝓜 𝓡 code.env #decode decode-def.routine code.calls-codec·decode (decode-thm.met 𝓤 H 𝓜 𝓖 𝓡))
     (cited 𝓤 H (Whoses 𝓤 H (𝓖 .A) (𝓜 .mem)
     (𝓡 .run)) 𝓜 𝓡 code.env #whose whose-def.routine code.calls-page·turning·whose (whose-thm.met 𝓤 H 𝓜 𝓖 𝓡))
     (cited 𝓤 H (TurnsAt 𝓤 H (𝓖 .A) (𝓜 .mem)
     (𝓡 .run)) 𝓜 𝓡 code.env #turn-at turn-def.routine code.calls-page·running·turn-at (turn-thm.met 𝓤 H 𝓜 𝓖 𝓡))
-    (cited 𝓤 H (Writes 𝓤 H (𝓖 .A) (𝓜 .mem)
+    (cited 𝓤 H (Writes 𝓤 H (𝓖 .A) (givenOf 𝓤 H 𝓜 𝓖) (𝓜 .mem)
     (𝓡 .run)) 𝓜 𝓡 code.env #write-turn write-def.routine code.calls-page·turning·write-turn (write-thm.met 𝓤 H 𝓜 𝓖 𝓡))
     (cited 𝓤 H (Rans 𝓤 H (𝓖 .A) (𝓜 .mem)
     (𝓡 .run)) 𝓜 𝓡 code.env #ran-of ran-def.routine code.calls-page·looping·ran-of (ran-thm.met 𝓤 H 𝓜 𝓖 𝓡)))

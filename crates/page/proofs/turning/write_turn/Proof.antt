@@ -3,6 +3,7 @@ use borrow.Author.Needs.{needs}
 use mathlib.Core.Path.{sym, ap, _∙_}
 use Rattle.protocol.specs.Form.{Form, formOf}
 use Rattle.page.specs.Writes.{Wrote}
+use Rattle.page.specs.Loop.{writesOnIn}
 use Rattle.page.proofs.Loop.Enters.{writes-nothing}
 use Rattle.page.proofs.Loop.Turned.{write-none, write-done}
 use Rattle.page.proofs.turning.write_turn.Statement.{statement}
@@ -27,10 +28,11 @@ returns c =
     )
 
 write-requires : tie.Need-write-requires
+unfolding writesOnIn
 write-requires c κs =
     let k = c .before .before in
     let s = k .before .before .before .before .before in
-    (s .pre .0, s .pre .1, rw (k .d .given .1) at (s .pre .2))
+    (s .pre .0, s .pre .1, rw (k .d .given .1) at (s .pre .2), rw (k .d .given .1) at (s .pre .3))
 
 wrote-requires : tie.Need-wrote-requires
 wrote-requires c κs =
@@ -38,7 +40,7 @@ wrote-requires c κs =
     let k = r .before .before .before in
     let s = k .before .before .before .before .before in
     let a = s .args in (
-      s .pre .3,
+      s .pre .4,
       λ o is.
           writes-nothing (form s) (a .records .now) (a .page .now) (a .p .writer) _ (rw (k .d .given .1) at (s .pre .2)) o
           (ap (λ (y : Wrote). y .answer) (sym (r .write .ensures .0)) ∙ is),
