@@ -4,7 +4,7 @@ ghost use mathlib.Core.Path.{_≡_};
 ghost use mathlib.Core.Bool.{_&&_, cond};
 ghost use Prim.Native.Nat.{_+_};
 ghost use lib.Dec.{leb};
-ghost use lib.ListN.{length, getD};
+ghost use lib.ListN.{getD};
 ghost use Rattle.protocol.specs.Form.{formOf, countSteps, recordSteps};
 ghost use Rattle.protocol.specs.Layout.{countOrder, countReadOrder, recordOrder, attemptOrder};
 ghost use Rattle.protocol.specs.Allowed.{versionDigits};

@@ -26,7 +26,6 @@ use Rattle.protocol.specs.declared.Refusal.{Refusal}
 use Rattle.page.specs.declared.Answer.{Answer}
 use Rattle.page.specs.declared.Answer.the-variants.{Done as WasDone, Refused as WasRefused}
 use Rattle.page.specs.declared.Stepped.{Stepped}
-use Rattle.page.specs.Carry.{After}
 use Rattle.page.specs.Calls.{startLent, stepLent}
 use Rattle.lagumtay.specs.declared.stepping.Order.{Order}
 use Rattle.lagumtay.specs.declared.stepping.Entry.{Entry}

@@ -1,15 +1,14 @@
 -- Sixteen digits of which none is gathered: their sum is 0.
-use mathlib.Core.Path.{_≡_, refl, sym, ap, ap₂, _∙_}
+use mathlib.Core.Path.{_≡_, sym, ap, ap₂, _∙_}
 use mathlib.Core.List.{List}
 use mathlib.Core.Bool.{_&&_}
 use Prim.Native.Nat.{ℕ, _+_, _-_, _≤_, min}
 use native.Mathlib.Omega.{arith}
 use lib.Dec.{eqb}
 use lib.ListN.{length}
-use Rattle.protocol.specs.Lists.{every, range}
 use Rattle.checks.specs.Digits.{sumOf, eightOk, gatheredOk}
 use Rattle.checks.proofs.Digits.Sums.{outside, sum-end, sum-outside, zero-sums}
-use Rattle.checks.proofs.Digits.Eights.{below, eight-parts}
+use Rattle.checks.proofs.Digits.Eights.{eight-parts}
 
 -- of eight, none
 eight-none : (bs l : List ℕ) (at k : ℕ) → k ≤ 8 → eightOk bs l at k k ≡ eqb (sumOf l at 8) 0

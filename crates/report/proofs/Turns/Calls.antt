@@ -21,18 +21,7 @@ use Rattle.packed.specs.Kept.{Kept, openedKept, openKept, RanKept, runKept, Ste
 use Rattle.page.proofs.Loop.NoCommand.{IsNone, no-command}
 use Rattle.report.specs.declared.header.Header.{Header as Found}
 use Rattle.report.specs.declared.Progress.{Progress}
-use Rattle.report.specs.Header.{
-  Parsed,
-  refused,
-  header,
-  number,
-  places,
-  formIn,
-  headerIn,
-  recordAt,
-  recordsAt,
-  commandsAt,
-}
+use Rattle.report.specs.Header.{Parsed, refused, header, number, formIn, headerIn, recordAt, recordsAt, commandsAt}
 use Rattle.report.specs.Found.{foundIn}
 use Rattle.report.specs.Text.{outcomeLine, OutcomeFits}
 use Rattle.report.specs.Turn.{startOf, lastTurn, answered, carried, carryOut}
