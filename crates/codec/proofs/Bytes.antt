@@ -1,19 +1,20 @@
 -- A number read from k bytes at a place, high byte first, one byte a turn.
-use mathlib.Core.Path.{_≡_, refl, sym, ap, _∙_}
+use mathlib.Core.Path.{_≡_, refl, sym, ap, subst, _∙_}
 use mathlib.Core.List.{List, [], _∷_}
 use mathlib.Core.Bool.{true}
 use Prim.Native.Nat.{ℕ, zero, suc, _+_, _*_, _-_, _^_, _≤_, _<_}
-use native.Mathlib.Nat.{add-zero, sub-zero, suc-sub-suc, le-mul-of-pos-right}
+use native.Mathlib.Nat.{add-zero, sub-zero, suc-sub-suc, zero-lt-suc, le-mul-of-pos-right, pow-le-pow-right}
 use native.Mathlib.Omega.{arith}
 use lib.ListN.{length, getD, take, drop, replicate, length-drop, length-replicate, getD-replicate, drop-of-length-le}
 use lib.Seq.{length-take-le, getD-take, getD-drop, take-take, take-nil, drop-drop}
-use borrow.Author.Tests.{le-leb, lt-ltb}
+use borrow.Author.Tests.{le-leb, lt-leb, lt-ltb}
 use Rattle.radix.specs.Digits.{product, value, valid, ofBytes}
 use Rattle.radix.specs.Answers.{all, goodBase, goodBases}
 use Rattle.radix.proofs.Numbers.Products.{rest-pos}
 use Rattle.radix.proofs.Numbers.Turns.{horner-on}
 use Rattle.radix.proofs.Theorems.RoundTrip.{valid-sound, value-lt, product-replicate}
 use Rattle.protocol.proofs.Lists.Cases.{together}
+use Rattle.codec.specs.Number.{numberIn}
 
 -- the bases of k bytes
 abbrev pub byteBases : ℕ → List ℕ
@@ -32,6 +33,10 @@ good-bytes k few = together (le-leb (length (byteBases k)) 8 (omega (arith, leng
 pub valid-bytes : (l : List ℕ) → ((i : ℕ) → i < length l → getD l i 0 < 256) → valid (byteBases (length l)) l ≡ true
 valid-bytes [] h = refl
 valid-bytes (x ∷ l) h = together (lt-ltb x 256 (h 0 (omega arith))) (valid-bytes l (λ i g. h (suc i) (omega arith)))
+
+-- as many as a number holds
+pub byte-power : (k : ℕ) → k ≤ 8 → 256 ^ k ≤ 2 ^ 64
+byte-power k few = pow-le-pow-right (zero-lt-suc 255) few
 
 -- x, and the bytes from i on
 abbrev pub whole : List ℕ → ℕ → ℕ → ℕ
@@ -117,6 +122,28 @@ module _ (s : List ℕ) (at k : ℕ) where
 
       pub reads-all : k ≤ i → x ≡ ofBytes (part s at k)
       reads-all h = let l = length-part in sym (whole-end (part s at k) x i (omega arith)) ∙ r .1
+
+-- so many bytes say a number of so many bytes
+pub part-below :
+    (s : List ℕ) (at k : ℕ) → at + k ≤ length s → ((i : ℕ) → getD s i 0 < 256) → ofBytes (part s at k) < 256 ^ k
+part-below s at k room small =
+    let l = length-part s at k room in
+    let v = valid-bytes (part s at k) (λ j g. rw (part-at s at k j (omega arith)) (small (at + j))) in
+    let e = product-replicate (length (part s at k)) 256 in
+    let h = value-lt (valid-sound (byteBases (length (part s at k))) (part s at k) v) in
+    subst (λ n. ofBytes (part s at k) < 256 ^ n) l (rw e at h)
+
+-- the number of any bytes, by its tests
+module _ (s : List ℕ) (at k : ℕ) where
+  pub too-many : 8 < k → 0 ≡ numberIn s at k
+  too-many h = rw (lt-leb k 8 h)
+
+  module _ (few : k ≤ 8) where
+    pub not-there : length s < at + k → 0 ≡ numberIn s at k
+    not-there h = rw (le-leb k 8 few, lt-leb (at + k) (length s) h)
+
+    pub all-there : at + k ≤ length s → ofBytes (part s at k) ≡ numberIn s at k
+    all-there h = rw (le-leb k 8 few, le-leb (at + k) (length s) h)
 
 -- two bytes
 two-of : (l : List ℕ) → 2 ≤ length l → ofBytes (take 2 l) ≡ getD l 0 0 * 256 + getD l 1 0

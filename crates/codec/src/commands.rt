@@ -29,7 +29,7 @@ fn command_at(s: &[u8], at: usize) -> Decoded
                 return Decoded::Unknown;
             }
             Decoded::Is(
-                Command::WriteCount(Count(numbers::number_at(s, body))),
+                Command::WriteCount(Count(numbers::number_at(s, body, 8))),
                 body + 8,
             )
         }

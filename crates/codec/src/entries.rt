@@ -1,6 +1,6 @@
 // Entries of the log.
 ghost use mathlib.Core.Path.{_≡_};
-ghost use Prim.Native.Nat.{_+_, _≤_};
+ghost use Prim.Native.Nat.{_+_, _≤_, _<_};
 ghost use lib.ListN.{length};
 ghost use Rattle.protocol.specs.Outcome.{entry as entryOf};
 ghost use Rattle.codec.specs.Entry.{overlay, added, outcomeIn, putAt};
@@ -80,6 +80,13 @@ pub fn put(log: &mut [u8], at: usize, o: Outcome) -> usize
     at + k
 }
 
+fn half(x: u64) -> u32
+    requires { ⌜ x < 4294967296 ⌝ }
+    ensures { λ r. ⌜ r ≡ x ⌝ }
+{
+    x as u32
+}
+
 // The outcome whose entry a log of ten bytes begins with.
 pub fn outcome(log: [u8; 10]) -> Outcome
     ensures { λ r. ⌜ r ≡ outcomeIn log ⌝ }
@@ -88,14 +95,14 @@ pub fn outcome(log: [u8; 10]) -> Outcome
     if kind == 1 {
         return Outcome::Shown {
             reader: log[1],
-            count: Count(numbers::number_at(&log, 2)),
+            count: Count(numbers::number_at(&log, 2, 8)),
         };
     }
     if kind == 2 {
         return Outcome::Accepted {
             reader: log[1],
             attempts: log[2],
-            version: Version(numbers::short_at(&log, 3)),
+            version: Version(half(numbers::number_at(&log, 3, 4))),
         };
     }
     if kind == 3 {

@@ -9,6 +9,7 @@ pub use commands::encode;
 pub use entries::outcome;
 pub use entries::put;
 pub use entries::size;
+pub use numbers::number;
 use protocol::Command;
 pub use states::pack;
 pub use states::unpack;

@@ -84,7 +84,7 @@ pub fn unpack(s: &[u8], i: usize) -> Reader
             kind: s[at],
             allowed: s[at + 1],
             finished: s[at + 2],
-            steps: index(numbers::number_at(s, at + 3)),
+            steps: index(numbers::number_at(s, at + 3, 8)),
         },
         digits: d,
     }

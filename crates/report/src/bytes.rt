@@ -22,21 +22,7 @@ fn base(x: u8) -> u16
     x as u16
 }
 
-// The number that eight bytes at a place say, high byte first.
-pub(crate) fn number(s: &[u8], at: usize) -> u64
-    requires { ⌜ at + 8 ≤ length (now s) ⌝ }
-    ensures { λ r. ⌜ r ≡ numberOf 8 at (now (s .entry)) ⌝ }
-{
-    let mut x: u64 = 0;
-    let mut k: usize = 0;
-    while k < 8 {
-        x = x * 256 + wide(s[at + k]);
-        k = k + 1;
-    }
-    x
-}
-
-// The same of two bytes, as a base and as a length.
+// The number that two bytes at a place say, high byte first, as a base and as a length.
 pub(crate) fn base_at(s: &[u8], at: usize) -> u16
     requires { ⌜ at + 2 ≤ length (now s) ⌝ }
     ensures { λ r. ⌜ r ≡ numberOf 2 at (now (s .entry)) ⌝ }

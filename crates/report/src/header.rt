@@ -77,7 +77,7 @@ fn parse_rest(s: &[u8], m: usize, f: Format, bases: &[u16]) -> Parsed
     if s.len() < commands {
         return Parsed::Refused(Refusal::WrongLength);
     }
-    let count = Count(bytes::number(s, end));
+    let count = Count(codec::number(s, end, 8));
     let fits = radix::counts::digit(bases, 0, count);
     let Digit::Is(_) = fits else {
         return Parsed::Refused(Refusal::CountTooLarge);

@@ -145,7 +145,7 @@ unfolding decode
 returns-7 c =
     let k = c .before .before in
     let s = k .before .before .before in
-    ap (λ x. Decoded.Is (WriteCount (record { 0 = x })) (s .args .at + 1 + 8)) (c .number-at .ensures)
+    ap (λ x. Decoded.Is (WriteCount (record { 0 = x })) (s .args .at + 1 + 8)) (c .number-at .ensures .0)
     ∙ whole (s .args .s .now) (s .args .at) (s .pre) 8 _ (k .match .keys1) refl (c .before .if1 .left)
 
 returns-8 : tie.Need-returns-8

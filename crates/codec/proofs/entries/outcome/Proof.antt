@@ -1,5 +1,6 @@
 -- Each return is one kind of entry.
 use borrow.Author.Needs.{needs}
+use mathlib.Core.Path.{_∙_}
 use Rattle.codec.proofs.Found.{found-shown, found-accepted, found-gave, found-nothing}
 use Rattle.codec.proofs.entries.outcome.Statement.{statement}
 use Rattle.codec.proofs.entries.outcome.Tie as tie
@@ -19,7 +20,7 @@ number-at-requires c κs = search needs
 returns : tie.Need-returns
 returns c =
     let t = c .before .before in
-    found-shown (t .before .args .t1) (t .if1 .taken) (c .number-at .ensures)
+    found-shown (t .before .args .t1) (t .if1 .taken) (c .number-at .ensures .0)
 
 array-read-t17 : tie.Need-array-read-t17
 array-read-t17 c = search needs
@@ -27,22 +28,26 @@ array-read-t17 c = search needs
 array-read-t20 : tie.Need-array-read-t20
 array-read-t20 c = search needs
 
-slice-aggregate-short-at : tie.Need-slice-aggregate-short-at
-slice-aggregate-short-at c = search needs
+slice-aggregate-number-at-2 : tie.Need-slice-aggregate-number-at-2
+slice-aggregate-number-at-2 c = search needs
 
-short-at-requires : tie.Need-short-at-requires
-short-at-requires c κs = search needs
+number-at-requires-2 : tie.Need-number-at-requires-2
+number-at-requires-2 c κs = search needs
+
+half-requires : tie.Need-half-requires
+half-requires c κs = c .number-at2 .ensures .1
 
 returns-2 : tie.Need-returns-2
 returns-2 c =
-    let t = c .before .before in
-    found-accepted (t .before .before .args .t1) (t .if2 .taken) (c .short-at .ensures)
+    let n = c .before in
+    let t = n .before .before in
+    found-accepted (t .before .before .args .t1) (t .if2 .taken) (c .half .ensures ∙ n .number-at2 .ensures .0)
 
-array-read-t27 : tie.Need-array-read-t27
-array-read-t27 c = search needs
+array-read-t28 : tie.Need-array-read-t28
+array-read-t28 c = search needs
 
-array-read-t30 : tie.Need-array-read-t30
-array-read-t30 c = search needs
+array-read-t31 : tie.Need-array-read-t31
+array-read-t31 c = search needs
 
 returns-3 : tie.Need-returns-3
 returns-3 c = found-gave (c .before .before .before .args .t1) (c .if3 .taken)
@@ -63,10 +68,11 @@ outcome-spec =
     returns
     array-read-t17
     array-read-t20
-    slice-aggregate-short-at
-    short-at-requires
+    slice-aggregate-number-at-2
+    number-at-requires-2
+    half-requires
     returns-2
-    array-read-t27
-    array-read-t30
+    array-read-t28
+    array-read-t31
     returns-3
     returns-4)

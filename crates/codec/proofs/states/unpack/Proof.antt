@@ -46,7 +46,7 @@ returns-2 c =
     let n = c .before in
     let d = n .before .before .before .before in
     let s = d .before .before .before .args in
-    unpack-here (s .s .now) (s .i) (d .before .if1 .left) (c .index .ensures ∙ n .number-at .ensures) (d .digits-at .ensures)
+    unpack-here (s .s .now) (s .i) (d .before .if1 .left) (c .index .ensures ∙ n .number-at .ensures .0) (d .digits-at .ensures)
 
 pub unpack-spec : {M : Type 1} → statement M
 unpack-spec =

@@ -5,6 +5,7 @@ use Prim.Native.Nat.{_+_, _*_, _≤_}
 use native.Mathlib.Omega.{arith}
 use lib.ListN.{length}
 use Rattle.protocol.proofs.InRange.{in-range}
+use Rattle.codec.proofs.Bytes.{all-there}
 use Rattle.report.specs.Header.{number, formIn, headerIn, commandsAt}
 use Rattle.report.specs.declared.header.Parsed.{Parsed as Found}
 use Rattle.report.proofs.Parsing.Numbers.{two-small}
@@ -109,8 +110,12 @@ count-here : (c : tie.After-number) →
     let s = start (sized c .before .before) in
     c .number .result ≡ headerIn (s .args .s .now) .count .0
 count-here c =
-    let s = start (sized c .before .before) in
-    count-at (s .args .s .now) (s .pre .0) (bytes-here s) (c .number .ensures)
+    let e = sized c .before in
+    let s = start (e .before) in
+    let i = s .args .s .now in
+    let at = 7 + 2 * s .args .m in
+    let h : at + 8 ≤ length i = omega (arith, e .if1 .left) in
+    count-at i (s .pre .0) (bytes-here s) (c .number .ensures ∙ sym (all-there i at 8 (omega arith) h))
 
 returns-3 : tie.Need-returns-3
 returns-3 c =
