@@ -7,6 +7,16 @@ use lib.ListN.{set}
 use Rattle.protocol.specs.Form.{Form, countSteps, recordSteps}
 use Rattle.protocol.specs.Memory.{stageAt}
 use Rattle.protocol.specs.Allowed.{versionDigits}
+use Rattle.protocol.specs.declared.Command.{Command}
+use Rattle.protocol.specs.declared.Command.the-variants.{
+  WriteCount,
+  WriteRecord,
+  WriterStep,
+  BeginCountRead,
+  BeginRecordRead,
+  ReaderStep,
+  Cancel,
+}
 use Rattle.protocol.specs.declared.Stage.{Stage}
 use Rattle.checks.specs.Layout.{inContent, slotOf}
 
@@ -15,6 +25,16 @@ unfoldable pub advancing : Form → Stage → Bool
 advancing F s =
     cond (eqb (s .kind) 1) (ltb (s .steps + 1) (countSteps F))
     (cond (eqb (s .kind) 2) (ltb (s .steps + 1) (recordSteps F)) false)
+
+-- is the command such a one?
+abbrev pub readsOn : Form → Stage → Command → Bool
+readsOn F s (WriteCount c) = false
+readsOn F s (WriteRecord i) = false
+readsOn F s WriterStep = false
+readsOn F s (BeginCountRead r) = false
+readsOn F s (BeginRecordRead r a) = false
+readsOn F s (ReaderStep r) = advancing F s
+readsOn F s (Cancel r) = false
 
 -- the same read, after so many steps
 abbrev pub onward : Stage → (steps : ℕ) → Stage

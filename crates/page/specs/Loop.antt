@@ -23,6 +23,7 @@ use Rattle.protocol.specs.declared.Outcome.the-variants.{Nothing}
 use Rattle.protocol.specs.declared.Reader.{Reader}
 use Rattle.protocol.specs.declared.Refusal.{Refusal}
 use Rattle.protocol.specs.declared.Refusal.the-variants.{UnknownCommand}
+use Rattle.protocol.specs.declared.Stage.{Stage}
 use Rattle.protocol.specs.declared.Writer.{Writer}
 use Rattle.codec.specs.declared.Decoded.{Decoded}
 use Rattle.codec.specs.Entry.{putAt}
@@ -33,6 +34,7 @@ use Rattle.page.specs.declared.looping.Standing.{Standing}
 use Rattle.page.specs.declared.looping.Verdict.{Verdict}
 use Rattle.page.specs.declared.turning.ReadTurn.{ReadTurn}
 use Rattle.page.specs.declared.turning.WriteTurn.{WriteTurn}
+use Rattle.page.specs.Advance.{advancing, readsOn}
 use Rattle.page.specs.Reads.{whoseOf, readsAt, ReadReady}
 use Rattle.page.specs.Writes.{writes, NoReader, writesOn}
 use Rattle.page.specs.Carry.{readerAt, afterRead, carryAt}
@@ -108,6 +110,12 @@ stepperIn Decoded.Over none = none
 stepperIn Decoded.Unknown none = none
 stepperIn (Decoded.Is x next) none = stepperOf x none
 
+-- is it a reader's step that ends nothing?
+abbrev pub readsOnIn : Form → Stage → Decoded → Bool
+readsOnIn F s Decoded.Over = false
+readsOnIn F s Decoded.Unknown = false
+readsOnIn F s (Decoded.Is x next) = readsOn F s x
+
 -- is it the next step of a pending write?
 unfoldable pub writesOnIn : Decoded → Writer → Bool
 writesOnIn Decoded.Over w = false
@@ -155,12 +163,15 @@ inPlace i rs y = placeTurn (y .standing) (set rs i (y .reader)) (y .buffers) (y 
 abbrev pub turnAt : Form → (page : List ℕ) → (i : ℕ) → List Reader → (buffers log : List ℕ) → Decoded → Standing → PlaceTurn
 turnAt F page i rs bs log d z = inPlace i rs (readTurn F page i (readerAt rs i) bs log d z)
 
--- A STEP THAT ENDS NOTHING, of a reader in its place; or nothing is done
+-- A STEP THAT ENDS NOTHING, of a reader in its place; or nothing is done, as there is no such step
+abbrev pub NoAdvance : Form → (i : ℕ) → List Reader → Type 0
+NoAdvance F i rs = i < length rs → advancing F (readerAt rs i .stage) ≡ false
+
 abbrev pub Advanced :
     Form → (page : List ℕ) → (i : ℕ) → List Reader → (buffers : List ℕ) → Bool → List Reader → List ℕ → Type 0
 Advanced F page i rs bs true rs′ bs′ =
     (i < length rs) × ((room : ℕ) → afterRead (Done Nothing) rs′ bs′ ≡ carryAt F page i room rs bs (ReaderStep i))
-Advanced F page i rs bs false rs′ bs′ = (rs′ ≡ rs) × (bs′ ≡ bs)
+Advanced F page i rs bs false rs′ bs′ = (rs′ ≡ rs) × (bs′ ≡ bs) × NoAdvance F i rs
 
 -- of the writer
 pub record PenTurn : Type 0 where

@@ -3,14 +3,13 @@ ghost use mathlib.Core.Path.{_≡_};
 ghost use Prim.Native.Nat.{_+_, _≤_, _<_};
 ghost use lib.ListN.{length, set};
 ghost use Rattle.radix.specs.Answers.{endsOf};
-ghost use Rattle.protocol.specs.Form.{formOf};
+ghost use Rattle.protocol.specs.Form.{formOf, countSteps};
 ghost use Rattle.protocol.specs.Memory.{readerOf};
 ghost use Rattle.protocol.specs.Load.{loadReading};
 ghost use Rattle.checks.specs.Layout.{slotOf};
 ghost use Rattle.page.specs.Held.{Fits};
 ghost use Rattle.page.specs.At.{AtCount};
 ghost use Rattle.page.specs.Left.{Leaves, stepped, Whole, copyOne, copyTwo, countEnded};
-use crate::Answer;
 use crate::finishing;
 use crate::finishing::Taken;
 use checks::layout;
@@ -31,7 +30,7 @@ fn ends_of(bases: &[u16], digits: &[u8]) -> Ends
     radix::copies::ends(bases, &digits[..m], &digits[8..end])
 }
 
-// The last step, where all digits are there.
+// The end, where all digits are there.
 fn end_count(
     format: Format,
     bases: &[u16],
@@ -76,8 +75,8 @@ pub(crate) fn gather(bases: &[u16], k: usize, digits: &mut [u8], digit: u8)
     digits[p] = digit;
 }
 
-// One step.
-pub(crate) fn take_count(
+// The last step.
+pub(crate) fn last_step(
     format: Format,
     bases: &[u16],
     who: u8,
@@ -88,23 +87,11 @@ pub(crate) fn take_count(
 ) -> Taken
     requires { ⌜ AtCount (formOf (now bases) format) (readerOf stage (now digits))
         × Fits (formOf (now bases) format) (loadReading (formOf (now bases) format) (readerOf stage (now digits)))
-        digit ⌝ }
+        digit
+        × (countSteps (formOf (now bases) format) ≤ stage .steps + 1) ⌝ }
     ensures { λ r. ⌜ Leaves r (now (digits .exit))
         (stepped (formOf (now (bases .entry)) format) who digit room (readerOf stage (now (digits .entry)))) ⌝ }
 {
-    let k = stage.steps;
-    gather(bases, k, digits, digit);
-    if k + 1 < layout::count_steps(format, bases) {
-        let on = Stage {
-            kind: stage.kind,
-            allowed: stage.allowed,
-            finished: stage.finished,
-            steps: k + 1,
-        };
-        return Taken {
-            answer: Answer::Done(Outcome::Nothing),
-            stage: on,
-        };
-    }
+    gather(bases, stage.steps, digits, digit);
     end_count(format, bases, who, stage, digits, room)
 }

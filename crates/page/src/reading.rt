@@ -1,8 +1,7 @@
 // One command of one reader: its numbers by value, its digits and its buffer lent. The page is only read.
 ghost use mathlib.Core.Path.{_≡_};
-ghost use mathlib.Core.Bool.{true};
+ghost use mathlib.Core.Bool.{true, false};
 ghost use Prim.Native.Nat.{ℕ, _<_};
-ghost use lib.ListN.{length};
 ghost use Rattle.protocol.specs.Form.{formOf, goodForm};
 ghost use Rattle.protocol.specs.Step.{nextPosition};
 ghost use Rattle.protocol.specs.Memory.{readerOf};
@@ -13,7 +12,7 @@ ghost use Rattle.page.specs.declared.Answer.the-variants.{Done};
 ghost use Rattle.page.specs.Held.{Held, pageLength};
 ghost use Rattle.page.specs.Left.{leftBy, stepped, Ready};
 ghost use Rattle.page.specs.Reads.{read, readBy, readsAt, ReadReady};
-ghost use Rattle.page.specs.Advance.{advancing, onward};
+ghost use Rattle.page.specs.Advance.{advancing, readsOn, onward};
 use crate::Answer;
 use crate::begins;
 use crate::count_read;
@@ -41,7 +40,7 @@ fn position(format: Format, bases: &[u16], stage: Stage, digits: &[u8]) -> usize
     layout::attempt(format, bases, stage.steps)
 }
 
-// One step, with the digit that the page shows at the position.
+// A step that ends the read or the attempt, with the digit that the page shows at the position; an idle reader is refused.
 fn take(
     format: Format,
     bases: &[u16],
@@ -52,7 +51,8 @@ fn take(
     digit: u8,
     room: usize,
 ) -> Taken
-    requires { ⌜ Ready (formOf (now bases) format) (readerOf stage (now digits)) (now buffer) digit ⌝ }
+    requires { ⌜ Ready (formOf (now bases) format) (readerOf stage (now digits)) (now buffer) digit
+        × (advancing (formOf (now bases) format) stage ≡ false) ⌝ }
     ensures { λ r. ⌜ leftBy r (now (digits .exit)) (now (buffer .exit))
         ≡ stepped (formOf (now (bases .entry)) format) who digit room (readerOf stage (now (digits .entry)))
         (now (buffer .entry)) ⌝ }
@@ -64,9 +64,9 @@ fn take(
         };
     }
     if stage.kind == 1 {
-        return count_read::take_count(format, bases, who, stage, digits, digit, room);
+        return count_read::last_step(format, bases, who, stage, digits, digit, room);
     }
-    record_read::take_record(format, bases, who, stage, digits, buffer, digit, room)
+    record_read::last_step(format, bases, who, stage, digits, buffer, digit, room)
 }
 
 // Does the next step end nothing, neither the read nor the attempt?
@@ -115,7 +115,7 @@ pub(crate) fn advance(
     k + 1
 }
 
-// One command of reader i.
+// One command of reader i, other than a step that ends nothing.
 pub(crate) fn read_at(
     i: usize,
     stage: Stage,
@@ -127,7 +127,8 @@ pub(crate) fn read_at(
     x: Command,
     room: usize,
 ) -> Taken
-    requires { ⌜ ReadReady (formOf (now bases) format) (now page) (readerOf stage (now digits)) (now buffers) i x ⌝ }
+    requires { ⌜ ReadReady (formOf (now bases) format) (now page) (readerOf stage (now digits)) (now buffers) i x
+        × (readsOn (formOf (now bases) format) stage x ≡ false) ⌝ }
     ensures { λ r. ⌜ (now (page .exit) ≡ now (page .entry)) × (readBy r (now (digits .exit)) (now (buffers .exit))
         ≡ readsAt (formOf (now (bases .entry)) format) (now (page .entry)) i room
         (readerOf stage (now (digits .entry))) (now (buffers .entry)) x) ⌝ }

@@ -1,7 +1,7 @@
 // A step of an attempt at a record read: v2 left to right, the bytes, v1 right to left, and the end of the attempt.
 ghost use mathlib.Core.Path.{_≡_};
 ghost use mathlib.Core.Bool.{true};
-ghost use Prim.Native.Nat.{_≤_, _<_};
+ghost use Prim.Native.Nat.{_+_, _≤_, _<_};
 ghost use lib.ListN.{length, replicate};
 ghost use Rattle.radix.specs.Digits.{value, valid};
 ghost use Rattle.radix.specs.Answers.{goodBases};
@@ -77,7 +77,7 @@ fn give_up(
     finishing::finish(stage, digits, o, room)
 }
 
-// The last step of an attempt, where all digits are there.
+// The end of an attempt, where all digits are there.
 fn end_attempt(
     format: Format,
     bases: &[u16],
@@ -136,8 +136,8 @@ pub(crate) fn gather(
     digits[p] = digit;
 }
 
-// One step.
-pub(crate) fn take_record(
+// The last step of an attempt.
+pub(crate) fn last_step(
     format: Format,
     bases: &[u16],
     who: u8,
@@ -149,24 +149,12 @@ pub(crate) fn take_record(
 ) -> Taken
     requires { ⌜ AtRecord (formOf (now bases) format) (readerOf stage (now digits))
         × Fits (formOf (now bases) format) (loadReading (formOf (now bases) format) (readerOf stage (now digits))) digit
-        × (length (now buffer) ≡ format .n) ⌝ }
+        × (length (now buffer) ≡ format .n)
+        × (recordSteps (formOf (now bases) format) ≤ stage .steps + 1) ⌝ }
     ensures { λ r. ⌜ leftBy r (now (digits .exit)) (now (buffer .exit))
         ≡ stepped (formOf (now (bases .entry)) format) who digit room (readerOf stage (now (digits .entry)))
         (now (buffer .entry)) ⌝ }
 {
-    let k = stage.steps;
-    gather(format, bases, k, digits, buffer, digit);
-    if k + 1 < layout::record_steps(format, bases) {
-        let on = Stage {
-            kind: stage.kind,
-            allowed: stage.allowed,
-            finished: stage.finished,
-            steps: k + 1,
-        };
-        return Taken {
-            answer: Answer::Done(Outcome::Nothing),
-            stage: on,
-        };
-    }
+    gather(format, bases, stage.steps, digits, buffer, digit);
     end_attempt(format, bases, who, stage, digits, buffer, room)
 }

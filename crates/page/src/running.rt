@@ -1,6 +1,6 @@
 // A run: the checks at its start, then one command after another.
 ghost use mathlib.Core.Path.{_≡_};
-ghost use mathlib.Core.Bool.{true};
+ghost use mathlib.Core.Bool.{true, false};
 ghost use Prim.Native.Nat.{_%_, _≤_, _<_};
 ghost use lib.Dec.{eqb};
 ghost use lib.ListN.{length};
@@ -8,7 +8,7 @@ ghost use Rattle.protocol.specs.Form.{formOf};
 ghost use Rattle.protocol.specs.declared.Command.the-variants.{ReaderStep};
 ghost use Rattle.page.specs.Reads.{ReadReady};
 ghost use Rattle.page.specs.Carry.{lent, Ready, readerAt};
-ghost use Rattle.page.specs.Loop.{TurnReady, placeTurn, turnAt, Advanced};
+ghost use Rattle.page.specs.Loop.{readsOnIn, TurnReady, placeTurn, turnAt, Advanced};
 ghost use Rattle.page.specs.Calls.{ranLent, runLent, Carries, refusedRan};
 use crate::Ran;
 use crate::looping;
@@ -36,7 +36,7 @@ fn refused_run(e: Ending, w: Writer) -> Ran
     }
 }
 
-// A turn of reader i, whose digits are lent on from the slice.
+// A turn of reader i, other than a step that ends nothing; its digits are lent on from the slice.
 pub(crate) fn turn_at(
     readers: &mut [Reader],
     i: usize,
@@ -51,7 +51,8 @@ pub(crate) fn turn_at(
     requires { ⌜ TurnReady (formOf (now bases) format) (now page) (readerAt (now readers) i) (now buffers) i d
         × (i < length (now readers))
         × (s .written ≤ length (now log))
-        × (s .done < 18446744073709551615) ⌝ }
+        × (s .done < 18446744073709551615)
+        × (readsOnIn (formOf (now bases) format) (readerAt (now readers) i .stage) d ≡ false) ⌝ }
     ensures { λ r. ⌜ (now (page .exit) ≡ now (page .entry))
         × (placeTurn r (now (readers .exit)) (now (buffers .exit)) (now (log .exit))
         ≡ turnAt (formOf (now (bases .entry)) format) (now (page .entry)) i (now (readers .entry))

@@ -8,7 +8,7 @@ ghost use Rattle.protocol.specs.Memory.{readerOf};
 ghost use Rattle.codec.specs.Decode.{decodeAt};
 ghost use Rattle.page.specs.Pen.{Knows};
 ghost use Rattle.page.specs.Writes.{WriteReady};
-ghost use Rattle.page.specs.Loop.{whoseIn, stepperIn, writesOnIn, oneTurnBy, readTurn, TurnReady, penTurnBy, writeTurn, NoReaderIn};
+ghost use Rattle.page.specs.Loop.{whoseIn, stepperIn, readsOnIn, writesOnIn, oneTurnBy, readTurn, TurnReady, penTurnBy, writeTurn, NoReaderIn};
 use crate::looping;
 use crate::looping::Standing;
 use crate::pen::Pen;
@@ -92,7 +92,7 @@ fn fields(s: Stage) -> Stage
     }
 }
 
-// A turn of reader i.
+// A turn of reader i, other than a step that ends nothing.
 pub(crate) fn read_turn(
     i: usize,
     stage: Stage,
@@ -107,7 +107,8 @@ pub(crate) fn read_turn(
 ) -> ReadTurn
     requires { ⌜ TurnReady (formOf (now bases) format) (now page) (readerOf stage (now digits)) (now buffers) i d
         × (s .written ≤ length (now log))
-        × (s .done < 18446744073709551615) ⌝ }
+        × (s .done < 18446744073709551615)
+        × (readsOnIn (formOf (now bases) format) stage d ≡ false) ⌝ }
     ensures { λ r. ⌜ (now (page .exit) ≡ now (page .entry))
         × (oneTurnBy r (now (digits .exit)) (now (buffers .exit)) (now (log .exit))
         ≡ readTurn (formOf (now (bases .entry)) format) (now (page .entry)) i (readerOf stage (now (digits .entry)))

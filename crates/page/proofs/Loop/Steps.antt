@@ -7,7 +7,15 @@ use lib.Dec.{T as Holds}
 use lib.ListN.{length}
 use Rattle.protocol.specs.Form.{Form}
 use Rattle.protocol.specs.Memory.{Memory}
-use Rattle.protocol.specs.declared.Command.the-variants.{ReaderStep}
+use Rattle.protocol.specs.declared.Command.the-variants.{
+  WriteCount,
+  WriteRecord,
+  WriterStep,
+  BeginCountRead,
+  BeginRecordRead,
+  ReaderStep,
+  Cancel,
+}
 use Rattle.protocol.specs.declared.Outcome.the-variants.{Nothing}
 use Rattle.protocol.specs.declared.Reader.{Reader}
 use Rattle.codec.specs.declared.Decoded.{Decoded}
@@ -24,9 +32,11 @@ use Rattle.page.specs.Loop.{
   enterOf,
   whoseIn,
   stepperIn,
+  readsOnIn,
   readTurn,
   placeTurn,
   turnAt,
+  NoAdvance,
   Advanced,
 }
 use Rattle.page.proofs.Loop.Enters.{enter-nothing}
@@ -41,9 +51,25 @@ module _ (F : Form) (page : List ℕ) (i : ℕ) (rs : List Reader) (bs : List �
   was-moved true h so = so
   was-moved false h so = absurd h
 
-  pub was-kept : (t : Bool) → Holds (not t) → Advanced F page i rs bs t rs′ bs′ → (rs′ ≡ rs) × (bs′ ≡ bs)
+  pub was-kept : (t : Bool) → Holds (not t) → Advanced F page i rs bs t rs′ bs′ → Advanced F page i rs bs false rs′ bs′
   was-kept true h so = absurd h
   was-kept false h so = so
+
+-- then the command is no step that ends nothing
+module _ (F : Form) (n : ℕ) (rs : List Reader) where
+  pub then-ends :
+      (d : Decoded) → NoAdvance F (stepperIn d n) rs → whoseIn d n < length rs →
+      readsOnIn F (readerAt rs (whoseIn d n) .stage) d ≡ false
+  unfolding stepperIn whoseOf
+  then-ends Decoded.Over ends low = refl
+  then-ends Decoded.Unknown ends low = refl
+  then-ends (Decoded.Is (WriteCount c) next) ends low = refl
+  then-ends (Decoded.Is (WriteRecord i) next) ends low = refl
+  then-ends (Decoded.Is WriterStep next) ends low = refl
+  then-ends (Decoded.Is (BeginCountRead r) next) ends low = refl
+  then-ends (Decoded.Is (BeginRecordRead r a) next) ends low = refl
+  then-ends (Decoded.Is (ReaderStep r) next) ends low = ends low
+  then-ends (Decoded.Is (Cancel r) next) ends low = refl
 
 -- THE STEP
 module _

@@ -2,11 +2,11 @@
 use mathlib.Core.Path.{_≡_, refl}
 use mathlib.Core.List.{List}
 use mathlib.Core.Bool.{Bool, true, false, cond}
-use Prim.Native.Nat.{ℕ, _+_, _*_, _-_, _<_}
+use Prim.Native.Nat.{ℕ, _+_, _*_, _-_, _≤_, _<_}
 use native.Mathlib.Omega.{arith}
 use lib.Dec.{eqb, ltb}
 use lib.ListN.{getD, set, take, drop}
-use borrow.Author.Tests.{ltb-true, eqb-true, eqb-false}
+use borrow.Author.Tests.{ltb-true, ltb-false, eqb-true, eq-eqb, ne-eqb}
 use borrow.Rule.Slice.PartMut.{putMid}
 use Rattle.protocol.specs.Form.{Form, m, countSteps, recordSteps}
 use Rattle.protocol.specs.Step.{nextPosition}
@@ -29,27 +29,31 @@ use Rattle.page.proofs.Readers.Commands.{reads-step, reads-digit}
 
 -- BY THE KIND
 module _ (F : Form) (s : Stage) (on : advancing F s ≡ true) where
-  abbrev Left : Bool → Bool → Type 0
-  Left a b = cond a (ltb (s .steps + 1) (countSteps F)) (cond b (ltb (s .steps + 1) (recordSteps F)) false) ≡ true
-
   pub more-count : s .kind ≡ 1 → s .steps + 1 < countSteps F
   unfolding advancing
-  more-count k = ltb-true (s .steps + 1) (countSteps F) (go (eqb (s .kind) 1) (eqb (s .kind) 2) refl on)
-    where
-      go : (a b : Bool) → eqb (s .kind) 1 ≡ a → Left a b → ltb (s .steps + 1) (countSteps F) ≡ true
-      go true b e h = h
-      go false b e h = absurd (eqb-false (s .kind) 1 e k)
+  more-count k = ltb-true (s .steps + 1) (countSteps F) (rw (eq-eqb (s .kind) 1 k) at on)
 
   pub more-record : (s .kind ≡ 1 → ⊥) → (s .kind ≡ 2) × (s .steps + 1 < recordSteps F)
   unfolding advancing
-  more-record k = go (eqb (s .kind) 1) (eqb (s .kind) 2) refl refl on
+  more-record k = go (eqb (s .kind) 2) refl (rw (ne-eqb (s .kind) 1 k) at on)
     where
       go :
-          (a b : Bool) → eqb (s .kind) 1 ≡ a → eqb (s .kind) 2 ≡ b → Left a b →
+          (b : Bool) → eqb (s .kind) 2 ≡ b → cond b (ltb (s .steps + 1) (recordSteps F)) false ≡ true →
           (s .kind ≡ 2) × (s .steps + 1 < recordSteps F)
-      go true b e f h = absurd (k (eqb-true (s .kind) 1 e))
-      go false true e f h = (eqb-true (s .kind) 2 f, ltb-true (s .steps + 1) (recordSteps F) h)
-      go false false e f h = absurd (let z : _≡_ {A = ℕ} 0 1 = cc in omega arith)
+      go true f h = (eqb-true (s .kind) 2 f, ltb-true (s .steps + 1) (recordSteps F) h)
+      go false f h = absurd (let z : _≡_ {A = ℕ} 0 1 = cc in omega arith)
+
+-- a step that ends something
+module _ (F : Form) (s : Stage) (ends : advancing F s ≡ false) where
+  pub last-count : s .kind ≡ 1 → countSteps F ≤ s .steps + 1
+  unfolding advancing
+  last-count k = ltb-false (s .steps + 1) (countSteps F) (rw (eq-eqb (s .kind) 1 k) at ends)
+
+  pub last-record : s .kind ≡ 2 → recordSteps F ≤ s .steps + 1
+  unfolding advancing
+  last-record k =
+      ltb-false (s .steps + 1) (recordSteps F)
+      (rw (ne-eqb (s .kind) 1 (λ e. omega (arith, e, k)), eq-eqb (s .kind) 2 k) at ends)
 
 -- ONE STEP
 module _ (F : Form) (page : List ℕ) (s : Stage) (l bs : List ℕ) (i : ℕ)

@@ -36,8 +36,8 @@ enum-known-x-2 c = search needs
 -- a part's end fits
 bytes : (s : tie.Start) → s .args .i * s .args .format .n + s .args .format .n ≤ 4096
 bytes s =
-    let r = in-range _ (s .pre .held .form) in
-    part-small _ _ (s .args .buffers .now) _ (s .pre .below) (r .readers .1) (r .bytes .1)
+    let r = in-range _ (s .pre .0 .held .form) in
+    part-small _ _ (s .args .buffers .now) _ (s .pre .0 .below) (r .readers .1) (r .bytes .1)
 
 mul-from : tie.Need-mul-from
 mul-from c = omega (arith, bytes (c .before .before .before .before .before .before))
@@ -60,13 +60,14 @@ part-take-start c = search needs
 part-take-end : tie.Need-part-take-end
 part-take-end c =
     let s = c .before .before .before .before .before .before .before .before .before .before .before in
-    part-there _ _ (s .args .buffers .now) _ (s .pre .below) (s .pre .size)
+    part-there _ _ (s .args .buffers .now) _ (s .pre .0 .below) (s .pre .0 .size)
 
 take-requires : tie.Need-take-requires
 take-requires c κs =
     let p = c .before .before .before in
-    let s = p .before .before .before .before .before .before .before .before .before in
-    step-ready _ _ _ _ _ _ (s .pre) _ (p .position .ensures .0)
+    let e = p .before .before .before .before in
+    let s = e .before .before .before .before .before in
+    (step-ready _ _ _ _ _ _ (s .pre .0) _ (p .position .ensures .0), rw (e .x2 .given .1) at (s .pre .1))
 
 enum-told-2 : tie.Need-enum-told-2
 enum-told-2 c = search needs
@@ -102,7 +103,7 @@ returns-3 c =
     let p = t .before .before .before .before in
     let e = p .before .before .before .before in
     let s = e .before .before .before .before .before in
-    (refl, reads-step _ _ _ _ _ _ _ _ (e .x2 .given .1) (s .pre .own) _ _ _ _ (p .position .ensures .0) (t .take .ensures))
+    (refl, reads-step _ _ _ _ _ _ _ _ (e .x2 .given .1) (s .pre .0 .own) _ _ _ _ (p .position .ensures .0) (t .take .ensures))
 
 returns-4 : tie.Need-returns-4
 returns-4 c =

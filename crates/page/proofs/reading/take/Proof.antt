@@ -1,6 +1,7 @@
 -- The kinds, by the tests of the code.
 use Rattle.page.proofs.Readers.Ways.{at-count, at-record}
 use Rattle.page.proofs.Readers.Stored.{step-idle}
+use Rattle.page.proofs.Readers.Advances.{last-count, last-record}
 use borrow.Author.Needs.{needs}
 use Rattle.page.proofs.reading.take.Statement.{statement}
 use Rattle.page.proofs.reading.take.Tie as tie
@@ -8,26 +9,28 @@ use Rattle.page.proofs.reading.take.Tie as tie
 returns : tie.Need-returns
 returns c =
     let s = c .before .before .before .before .before in
-    step-idle _ _ (s .pre .held) _ _ _ _ (c .if1 .taken)
+    step-idle _ _ (s .pre .0 .held) _ _ _ _ (c .if1 .taken)
 
-take-count-requires : tie.Need-take-count-requires
-take-count-requires c κs =
+last-step-requires : tie.Need-last-step-requires
+last-step-requires c κs =
     let i = c .before in
     let p = i .before .before .before .before .before .before .before .pre in
-    (at-count _ _ (p .held) (i .if2 .taken), p .fits)
+    let k = i .if2 .taken in
+    (at-count _ _ (p .0 .held) k, p .0 .fits, last-count _ _ (p .1) k)
 
 same-length : tie.Need-same-length
 same-length c = search needs
 
 returns-2 : tie.Need-returns-2
-returns-2 c = c .before .before .take-count .ensures _
+returns-2 c = c .before .before .last-step .ensures _
 
-take-record-requires : tie.Need-take-record-requires
-take-record-requires c κs =
+last-step-requires-2 : tie.Need-last-step-requires-2
+last-step-requires-2 c κs =
     let i = c .before .before in
     let e = i .before .before in
     let p = e .before .before .before .before .before .pre in
-    (at-record _ _ (p .held) (e .if1 .left) (i .if2 .left), p .fits, p .size)
+    let r = at-record _ _ (p .0 .held) (e .if1 .left) (i .if2 .left) in
+    (r, p .0 .fits, p .0 .size, last-record _ _ (p .1) (r .kind))
 
 same-length-2 : tie.Need-same-length-2
 same-length-2 c = search needs
@@ -43,10 +46,10 @@ take-spec =
     tie.close
     (tie.spec
     returns
-    take-count-requires
+    last-step-requires
     same-length
     returns-2
-    take-record-requires
+    last-step-requires-2
     same-length-2
     same-length-3
     returns-3)

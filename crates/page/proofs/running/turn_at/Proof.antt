@@ -1,6 +1,6 @@
 -- `turn_at` meets its contract: a walk of its MIR, by hand. The slice's borrow is opened; of the reader, the stage is
 -- copied out and the digits are lent to `read_turn`, and the stage that it gave is put in its place.
-use mathlib.Core.Path.{_≡_, refl, sym, ap, subst}
+use mathlib.Core.Path.{refl, sym, ap, subst}
 use Prim.Native.Nat.{ℕ, _<_, _^_}
 use mathlib.Core.List.{[], _∷_, List, _++_, map}
 use lib.Dec.{T as Holds}
@@ -258,7 +258,7 @@ module _ {M : Type 1} (𝓤 : URA M) (H : Heap 𝓤) (A : Atoms 𝓤) (W : Given
           (to-read 𝓤 H A mem run (α ∷ []) fullShare (κs .1) (qs .1) others i (y .stage) stage-val
           (lent y b spot δ (y .digits)))
           (goes-read 𝓤 H A mem run (α ∷ []) fullShare (κs .1) (qs .1) others i (y .stage) stage-val
-          (lent y b spot δ (y .digits)) W i-fits (is-stage-of g) (asked .0, asked .2, asked .3))
+          (lent y b spot δ (y .digits)) W i-fits (is-stage-of g) (asked .0, asked .2, asked .3, asked .4))
           (arg ! 10 refl (arg ! 18 refl (arg ! 23 refl (arg ! 11 refl (arg ! 12 refl (arg ! 25 refl (arg ! 27 refl
           (arg ! 29 refl (arg ! 16 refl (arg ! 17 refl (no-more !)))))))))))
           (λ u. some (λ (z : Answer). given (Told others i (y .stage) (y .digits) z u)

@@ -45,7 +45,7 @@ read-at-requires c κs =
     let k = c .before .before .before .before .before in
     let f = k .before .before in
     let s = f .before .before .before .before .before in
-    rw (f .fields .ensures) (rw (k .d .given .1) at (s .pre .0))
+    rw (f .fields .ensures) (rw (k .d .given .1) at (s .pre .0), rw (k .d .given .1) at (s .pre .3))
 
 enter-requires : tie.Need-enter-requires
 enter-requires c κs = search needs

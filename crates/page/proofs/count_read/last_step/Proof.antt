@@ -1,0 +1,31 @@
+-- The digit is put in its place, and ends the read.
+use mathlib.Core.Path.{_∙_}
+use native.Mathlib.Omega.{arith}
+use Rattle.page.proofs.Readers.Counts.{count-whole, count-last}
+use borrow.Author.Needs.{needs}
+use Rattle.page.proofs.count_read.last_step.Statement.{statement}
+use Rattle.page.proofs.count_read.last_step.Tie as tie
+
+gather-requires : tie.Need-gather-requires
+gather-requires c κs =
+    let a = c .before .before .before .pre .0 in
+    (a .places .1, omega (arith, a .steps, a .few), a .long)
+
+end-count-requires : tie.Need-end-count-requires
+end-count-requires c κs =
+    let g = c .before .before .before in
+    let p = g .before .before .before .before .pre in
+    rw (g .gather .ensures) (count-whole _ _ _ (p .0) _ (p .2) (p .1))
+
+same-length : tie.Need-same-length
+same-length c = search needs
+
+returns : tie.Need-returns
+returns c =
+    let z = c .before .before in
+    let g = z .before .before .before .before in
+    let p = g .before .before .before .before .pre in
+    λ b. z .end-count .ensures b ∙ rw (g .gather .ensures) (count-last _ _ _ (p .0) _ (p .2) _ _ b)
+
+pub last-step-spec : {M : Type 1} → statement M
+last-step-spec = tie.close (tie.spec gather-requires end-count-requires same-length returns)
