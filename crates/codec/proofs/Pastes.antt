@@ -6,7 +6,8 @@ use native.Mathlib.Omega.{arith}
 use native.Mathlib.Numerals.{add-one}
 use lib.ListN.{length, getD, set}
 use lib.Seq.{paste, paste-suc, length-paste, take-length}
-use Rattle.codec.specs.Entry.{overlay}
+use borrow.Author.Tests.{le-leb, lt-leb}
+use Rattle.codec.specs.Entry.{overlay, pasted}
 
 module _ (d : List ℕ) (at : ℕ) (s : List ℕ) (i : ℕ) (h : at + length s ≤ length d) where
   pub paste-on : i < length s → (v : ℕ) → v ≡ getD s i 0 → set (paste d at s i) (at + i) v ≡ paste d at s (i + 1)
@@ -17,6 +18,16 @@ module _ (d : List ℕ) (at : ℕ) (s : List ℕ) (i : ℕ) (h : at + length s �
 
   pub paste-end : i ≤ length s → length s ≤ i → paste d at s i ≡ overlay d at s
   paste-end l g = let e : i ≡ length s = omega arith in rw (e, take-length)
+
+-- put over, if they fit
+module _ (l : List ℕ) (at : ℕ) (b : List ℕ) where
+  pub pasted-not : length l < at + length b → l ≡ pasted l at b
+  unfolding pasted
+  pasted-not h = rw (lt-leb (at + length b) (length l) h)
+
+  pub pasted-there : at + length b ≤ length l → overlay l at b ≡ pasted l at b
+  unfolding pasted
+  pasted-there h = rw (le-leb (at + length b) (length l) h)
 
 -- from the start of d on
 pub paste-front :

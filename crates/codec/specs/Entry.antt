@@ -2,7 +2,7 @@
 use mathlib.Core.List.{List, _++_}
 use mathlib.Core.Bool.{cond}
 use Prim.Native.Nat.{ℕ, _+_, _^_, _<_}
-use lib.Dec.{eqb, ltb}
+use lib.Dec.{eqb, ltb, leb}
 use lib.ListN.{length, take, drop, getD}
 use Rattle.radix.specs.Digits.{ofBytes}
 use Rattle.protocol.specs.Outcome.{entry}
@@ -11,6 +11,10 @@ use Rattle.protocol.specs.declared.Outcome.the-variants.{Nothing, Shown, Accept
 
 abbrev pub overlay : List ℕ → ℕ → List ℕ → List ℕ
 overlay l at bytes = take at l ++ bytes ++ drop (at + length bytes) l
+
+-- the same, if they fit
+unfoldable pub pasted : List ℕ → ℕ → List ℕ → List ℕ
+pasted l at bytes = cond (leb (at + length bytes) (length l)) (overlay l at bytes) l
 
 -- the bytes, and the place after them
 pub record Added : Type 0 where

@@ -2,6 +2,7 @@
 mod commands;
 mod entries;
 mod numbers;
+mod pasting;
 mod states;
 
 pub use commands::decode;
@@ -10,6 +11,7 @@ pub use entries::outcome;
 pub use entries::put;
 pub use entries::size;
 pub use numbers::number;
+pub use pasting::put_bytes;
 use protocol::Command;
 pub use states::pack;
 pub use states::unpack;

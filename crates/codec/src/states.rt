@@ -5,6 +5,7 @@ ghost use lib.ListN.{length, take, drop};
 ghost use Rattle.codec.specs.Entry.{overlay};
 ghost use Rattle.codec.specs.Packed.{packedAt, unpackedAt};
 use crate::numbers;
+use crate::pasting;
 use protocol::Reader;
 use protocol::Stage;
 
@@ -18,18 +19,6 @@ fn index(x: u64) -> usize
     ensures { λ r. ⌜ r ≡ x ⌝ }
 {
     x as usize
-}
-
-// Sixteen digits from a place on.
-fn put_digits(out: &mut [u8], at: usize, digits: &[u8])
-    requires { ⌜ (at + 16 ≤ length (now out)) × (length (now digits) ≡ 16) ⌝ }
-    ensures { λ r. ⌜ now (out .exit) ≡ overlay (now (out .entry)) at (now (digits .entry)) ⌝ }
-{
-    let mut k: usize = 0;
-    while k < 16 {
-        out[at + k] = digits[k];
-        k = k + 1;
-    }
 }
 
 fn digits_at(s: &[u8], at: usize) -> [u8; 16]
@@ -59,7 +48,7 @@ pub fn pack(out: &mut [u8], i: usize, x: Reader)
     out[at + 1] = s.allowed;
     out[at + 2] = s.finished;
     numbers::put_number(out, at + 3, 8, long(s.steps));
-    put_digits(out, at + 11, &d);
+    pasting::paste(out, at + 11, &d);
 }
 
 // State i of the packed states; an idle one, if it is not there.

@@ -32,18 +32,6 @@ fn put_zeros(out: &mut [u8], at: usize, k: usize)
     zero(&mut out[at..end]);
 }
 
-// Bytes from a place on.
-fn put_bytes(out: &mut [u8], at: usize, bytes: &[u8])
-    requires { ⌜ at + length (now bytes) ≤ length (now out) ⌝ }
-    ensures { λ r. ⌜ now (out .exit) ≡ overlay (now (out .entry)) at (now (bytes .entry)) ⌝ }
-{
-    let mut i: usize = 0;
-    while i < bytes.len() {
-        out[at + i] = bytes[i];
-        i = i + 1;
-    }
-}
-
 // Both copies of the first count, version 0 twice, the first record.
 pub(crate) fn fill_page(format: Format, bases: &[u16], page: &mut [u8], c: Count, record: &[u8])
     requires { ⌜ (goodForm (formOf (now bases) format) ≡ true)
@@ -58,6 +46,6 @@ pub(crate) fn fill_page(format: Format, bases: &[u16], page: &mut [u8], c: Count
     radix::counts::write(bases, Count(c.0), &mut page[..m]);
     radix::counts::write(bases, Count(c.0), &mut page[m..end]);
     put_zeros(page, end, q);
-    put_bytes(page, layout::content_start(format, bases), record);
+    codec::put_bytes(page, layout::content_start(format, bases), record);
     put_zeros(page, layout::second_version(format, bases), q);
 }

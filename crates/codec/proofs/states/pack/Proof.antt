@@ -37,24 +37,28 @@ long-requires c κs = search needs
 put-number-requires : tie.Need-put-number-requires
 put-number-requires c κs = (omega arith, simp length-set (omega arith))
 
-add-put-digits : tie.Need-add-put-digits
-add-put-digits c = search needs
+add-paste : tie.Need-add-paste
+add-paste c = search needs
 
-slice-aggregate-put-digits : tie.Need-slice-aggregate-put-digits
-slice-aggregate-put-digits c = search needs
+slice-aggregate-paste : tie.Need-slice-aggregate-paste
+slice-aggregate-paste c = search needs
 
 -- the bytes keep their length
 long-here : (c : tie.After-put-number) →
     length (c .put-number .last .0) ≡ length (c .before .before .before .before .before .before .before .args .out .now)
 long-here c = c .put-number .kept .0 ∙ simp length-set
 
-put-digits-requires : tie.Need-put-digits-requires
-put-digits-requires c κs = (omega (arith, long-here (c .before .before .before .before)), search needs)
+paste-requires : tie.Need-paste-requires
+paste-requires c κs =
+    let p = c .before .before .before .before in
+    let a = p .before .before .before .before .before .before .before .args in
+    let e : length (a .x .digits) ≡ 16 = search needs in
+    omega (arith, long-here p, e)
 
 same-length : tie.Need-same-length
 same-length c =
     let p = c .before .before in
-    p .put-digits .kept .0 ∙ long-here (p .before .before .before .before .before)
+    p .paste .kept .0 ∙ long-here (p .before .before .before .before .before)
 
 returns-2 : tie.Need-returns-2
 returns-2 c =
@@ -64,7 +68,7 @@ returns-2 c =
     let e = k .before .before .before .before in
     let s = e .before .before .args in
     pack-here (s .out .now) (s .i) (e .if1 .left) (s .x) (k .long .ensures) (n .put-number .ensures)
-    (p .put-digits .ensures)
+    (p .paste .ensures)
 
 pub pack-spec : {M : Type 1} → statement M
 pack-spec =
@@ -80,8 +84,8 @@ pack-spec =
     add-put-number
     long-requires
     put-number-requires
-    add-put-digits
-    slice-aggregate-put-digits
-    put-digits-requires
+    add-paste
+    slice-aggregate-paste
+    paste-requires
     same-length
     returns-2)

@@ -13,6 +13,7 @@ use Rattle.codec.specs.Entry.{overlay}
 use Rattle.checks.proofs.Small.{of-small}
 use Rattle.checks.proofs.Forms.{good-counts}
 use Rattle.fresh.proofs.Openings.Filled.{zero-digits, whole-digits, once, twice, both-written, second-length, filled}
+use Rattle.codec.proofs.Pastes.{pasted-there}
 use Rattle.fresh.proofs.filling.fill_page.Statement.{statement}
 use Rattle.fresh.proofs.filling.fill_page.Tie as tie
 
@@ -93,8 +94,13 @@ version-here c =
     ∙ ap (λ k. k + a .format .q + a .format .n)
     (sym (z .before .before .before .before .before .before .before .before .before .before .count-steps .ensures))
 
+-- the record lies within the page
+record-fits : (c : tie.After-content-start) →
+    c .content-start .result + length (start₄ c .args .«record» .now) ≤ length (c .before .before .before .before .put-zeros .last .0)
+record-fits c = omega (arith, content-here c)
+
 put-bytes-requires : tie.Need-put-bytes-requires
-put-bytes-requires c κs = omega (arith, content-here c)
+put-bytes-requires c κs = search needs
 
 second-version-requires : tie.Need-second-version-requires
 second-version-requires c κs = search needs
@@ -160,8 +166,9 @@ returns c =
     let counted = z .before .before .before .before .before .before .before .before .before .before .count-steps .ensures in
     let e : digits (versionBases (formOf b (a .format))) 0 ≡ replicate q 0 =
     zero-digits (replicate q (a .format .base)) ∙ rw (length-replicate q (a .format .base)) in
+    let there = sym (pasted-there (z .put-zeros .last .0) (k .content-start .result) (a .«record» .now) (record-fits k)) in
     last .put-zeros2 .ensures
-    ∙ rw (version-here v, r .put-bytes .ensures, content-here k, zeros-here z, e)
+    ∙ rw (version-here v, r .put-bytes .ensures ∙ there, content-here k, zeros-here z, e)
     (filled (a .page .now) (digits b (a .c .0)) (replicate q 0) (a .«record» .now) (length b) (end₃ z) q (a .format .n)
     counted (length-digits b (a .c .0)) (length-replicate q 0) (s .pre .2)
     (s .pre .1 ∙ ap (λ k. k + (q + a .format .n + q)) (sym counted)))
