@@ -2,7 +2,6 @@
 ghost use mathlib.Core.Path.{_≡_};
 ghost use Prim.Native.Nat.{_+_, _≤_};
 ghost use lib.ListN.{length, take, drop};
-ghost use Rattle.codec.specs.Entry.{overlay};
 ghost use Rattle.codec.specs.Packed.{packedAt, unpackedAt};
 use crate::numbers;
 use crate::pasting;

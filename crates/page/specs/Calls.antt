@@ -1,15 +1,13 @@
 -- What a call answers, and what was lent as it leaves it.
 use mathlib.Core.Path.{_≡_}
-use mathlib.Core.List.{List, [], _∷_, _++_, map}
-use mathlib.Core.Bool.{Bool, true, false, cond, _&&_, not}
-use Prim.Native.Nat.{ℕ, zero, suc, _+_, _*_, _-_, _%_, _≤_}
+use mathlib.Core.List.{List, [], _∷_, _++_}
+use mathlib.Core.Bool.{cond, _&&_, not}
+use Prim.Native.Nat.{ℕ, zero, suc, _+_, _-_, _%_}
 use lib.Dec.{eqb, leb}
-use lib.ListN.{length, take, drop, replicate}
+use lib.ListN.{length}
 use Rattle.radix.specs.declared.Count.{Count}
-use Rattle.protocol.specs.Lists.{concat}
 use Rattle.protocol.specs.Form.{Form, goodForm}
 use Rattle.protocol.specs.Command.{Decoded as ProtocolDecoded, over, unknown, command, decode}
-use Rattle.protocol.specs.Step.{carry}
 use Rattle.protocol.specs.Memory.{Memory, goodLengths}
 use Rattle.protocol.specs.Load.{validMemory}
 use Rattle.protocol.specs.Run.{openPage, Run, Event, run, RunOver, runs, left, logged, logAfter}
@@ -29,7 +27,7 @@ use Rattle.page.specs.declared.Answer.the-variants.{Done, Refused}
 use Rattle.page.specs.declared.Ran.{Ran}
 use Rattle.page.specs.declared.Stepped.{Stepped}
 use Rattle.page.specs.Start.{refusing}
-use Rattle.page.specs.Carry.{After, after, carryLent, onAnswer}
+use Rattle.page.specs.Carry.{After, after, carryLent}
 
 -- A RUN
 pub record RanLent : Type 0 where

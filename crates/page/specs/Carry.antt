@@ -2,7 +2,7 @@
 use mathlib.Core.Path.{_≡_}
 use mathlib.Core.List.{List}
 use mathlib.Core.Bool.{true, cond}
-use Prim.Native.Nat.{ℕ, _<_}
+use Prim.Native.Nat.{ℕ}
 use lib.Dec.{ltb}
 use lib.ListN.{length, getD, set}
 use Rattle.protocol.specs.Form.{Form, goodForm}
@@ -13,11 +13,10 @@ use Rattle.protocol.specs.Load.{load, validMemory}
 use Rattle.protocol.specs.declared.Command.{Command}
 use Rattle.protocol.specs.declared.Reader.{Reader}
 use Rattle.protocol.specs.declared.Refusal.the-variants.{LogFull}
-use Rattle.protocol.specs.declared.Writer.{Writer}
 use Rattle.page.specs.declared.Answer.{Answer}
 use Rattle.page.specs.declared.Answer.the-variants.{Done, Refused}
 use Rattle.page.specs.declared.pen.Carried.{Carried}
-use Rattle.page.specs.Reads.{Read, readsAt, ReadReady}
+use Rattle.page.specs.Reads.{Read, readsAt}
 pub use Rattle.fresh.specs.Opening.{lent, idleReader}
 
 -- what holds at every command of a run

@@ -6,7 +6,7 @@ use Prim.Native.Nat.{ℕ}
 use lib.Dec.{eqb, ltb}
 use Rattle.radix.specs.Digits.{bytes, ofBytes, digits, product}
 use Rattle.protocol.specs.Form.{Form, versionBases, goodForm}
-use Rattle.protocol.specs.Memory.{eight, storedWriting}
+use Rattle.protocol.specs.Memory.{eight}
 use Rattle.protocol.specs.State.{busyWriting}
 use Rattle.protocol.specs.Load.{loadWriting}
 use Rattle.protocol.specs.declared.Writer.{Writer}

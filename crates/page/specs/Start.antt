@@ -1,12 +1,12 @@
 -- Refusals 1 to 3, as the code finds them. `startLent` is the same by the protocol's definitions.
 use mathlib.Core.List.{List}
-use mathlib.Core.Bool.{Bool, true, false, cond, _&&_}
+use mathlib.Core.Bool.{Bool, cond, _&&_}
 use Prim.Native.Nat.{ℕ}
 use lib.ListN.{length}
 use Rattle.protocol.specs.Lists.{every}
 use Rattle.protocol.specs.Form.{Form}
 use Rattle.protocol.specs.declared.Ending.{Ending}
-use Rattle.protocol.specs.declared.Ending.the-variants.{Finished, Refused}
+use Rattle.protocol.specs.declared.Ending.the-variants.{Refused}
 use Rattle.protocol.specs.declared.Refusal.the-variants.{InvalidState}
 use Rattle.protocol.specs.declared.Reader.{Reader}
 use Rattle.protocol.specs.declared.Writer.{Writer}

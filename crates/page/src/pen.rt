@@ -1,12 +1,10 @@
 // The writer, with the digits of its pending write in one number once they are needed.
 ghost use mathlib.Core.Path.{_≡_};
-ghost use mathlib.Core.Bool.{true, false};
+ghost use mathlib.Core.Bool.{true};
 ghost use Prim.Native.Nat.{_<_};
 ghost use lib.ListN.{length, getD};
-ghost use Rattle.radix.specs.Digits.{bytes, ofBytes, digits, product};
+ghost use Rattle.radix.specs.Digits.{bytes, ofBytes};
 ghost use Rattle.protocol.specs.Form.{formOf, versionBases, goodForm};
-ghost use Rattle.protocol.specs.State.{resting as atRest};
-ghost use Rattle.protocol.specs.Memory.{storedWriting, eight};
 ghost use Rattle.page.specs.Pen.{Knows, inkOf, inked, Writable};
 use crate::Answer;
 use protocol::Format;

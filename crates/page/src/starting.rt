@@ -1,7 +1,6 @@
 // The checks at the start of a call: refusals 1 to 3.
 ghost use mathlib.Core.Path.{_≡_};
 ghost use mathlib.Core.Bool.{_&&_};
-ghost use lib.ListN.{length};
 ghost use Rattle.protocol.specs.Lists.{every};
 ghost use Rattle.protocol.specs.Form.{formOf};
 ghost use Rattle.checks.specs.Layout.{small};

@@ -1,6 +1,5 @@
 // A write begins: nothing is written yet.
 ghost use mathlib.Core.Path.{_≡_};
-ghost use mathlib.Core.Bool.{true};
 ghost use Rattle.protocol.specs.Form.{formOf};
 ghost use Rattle.protocol.specs.declared.Command.the-variants.{WriteCount, WriteRecord};
 ghost use Rattle.page.specs.Pen.{Knows};

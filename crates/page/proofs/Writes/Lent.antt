@@ -1,17 +1,16 @@
 -- A command that is no reader's, on all that is lent: page and writer change as `writes` says, the rest stays.
 use mathlib.Core.Path.{_≡_, refl, sym, ap, _∙_}
 use mathlib.Core.List.{List, [], map}
-use mathlib.Core.Bool.{true}
 use Prim.Native.Nat.{ℕ, _≤_}
 use lib.Dec.{leb·suc-zero}
 use lib.ListN.{length}
-use Rattle.protocol.specs.Lists.{concat, every}
+use Rattle.protocol.specs.Lists.{every}
 use Rattle.protocol.specs.Form.{Form}
 use Rattle.protocol.specs.State.{Writing, Reading, stateOf}
 use Rattle.protocol.specs.Outcome.{entry}
 use Rattle.protocol.specs.Step.{Answer as ProtocolAnswer, refused, done, carry}
 use Rattle.protocol.specs.Allowed.{allowedPage, allowedWriting, allowedReading, allowed}
-use Rattle.protocol.specs.Memory.{Memory, storedWriting, storedReading, stored}
+use Rattle.protocol.specs.Memory.{Memory, storedWriting, stored}
 use Rattle.protocol.specs.Load.{loadWriting, loadReading, parts, load}
 use Rattle.protocol.specs.declared.Command.{Command}
 use Rattle.protocol.specs.declared.Outcome.{Outcome}

@@ -1,26 +1,24 @@
 -- Where a step of a write puts what: a digit of the count or the version, or a byte of the record.
 use mathlib.Core.Path.{_≡_, refl, sym, ap, _∙_}
 use mathlib.Core.List.{List}
-use mathlib.Core.Bool.{Bool, true, false, _&&_}
-use Prim.Native.Nat.{ℕ, suc, _+_, _*_, _-_, min, _≤_, _<_}
+use mathlib.Core.Bool.{Bool, true, false}
+use Prim.Native.Nat.{ℕ, suc, _+_, _*_, _-_, _≤_, _<_}
 use native.Mathlib.Nat.{suc-mul}
 use native.Mathlib.Omega.{arith}
 use lib.Dec.{ltb, leb}
 use lib.ListN.{length, getD, drop}
 use lib.Seq.{getD-take, getD-drop}
-use borrow.Author.Tests.{leb-true, leb-false, ltb-true, ltb-false, lt-ltb, le-ltb, le-leb}
-use Rattle.radix.specs.Digits.{digits, bytes}
+use borrow.Author.Tests.{leb-true, leb-false, ltb-true, ltb-false, lt-ltb, le-ltb}
+use Rattle.radix.specs.Digits.{digits}
 use Rattle.protocol.specs.Form.{Form, m, versionBases, countSteps, recordSteps}
 use Rattle.protocol.specs.Step.{recordAt, inRecords}
 use Rattle.protocol.specs.Allowed.{versionDigits}
-use Rattle.protocol.specs.Memory.{eight}
 use Rattle.protocol.proofs.Lists.Cases.{both}
 use Rattle.protocol.proofs.Positions.Counts.{countImage}
 use Rattle.protocol.proofs.Positions.Records.{recordImage, recordDigitMid}
 use Rattle.protocol.proofs.Positions.Steps.{digit-low, digit-high, version-before, version-after}
 use Rattle.protocol.proofs.Allowed.Writer.{record-length}
 use Rattle.checks.specs.Layout.{inContent, thereAndBack}
-use Rattle.checks.proofs.Inside.{there-inside}
 
 -- A COUNT
 

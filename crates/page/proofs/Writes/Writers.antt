@@ -1,6 +1,6 @@
 -- The lent writer and the write that it holds, and one step of it.
 use mathlib.Core.Path.{_≡_, refl, sym, ap, subst, _∙_}
-use mathlib.Core.List.{List, []}
+use mathlib.Core.List.{List}
 use mathlib.Core.Bool.{Bool, true, false, not, cond}
 use Prim.Native.Nat.{ℕ, suc, _+_, _<_}
 use native.Mathlib.Numerals.{add-one}
@@ -14,7 +14,6 @@ use Rattle.radix.specs.Digits.{bytes}
 use Rattle.protocol.specs.Form.{Form, countSteps, recordSteps}
 use Rattle.protocol.specs.State.{Writing, resting, aCount, aRecord, busyWriting}
 use Rattle.protocol.specs.Step.{inRecords, onward, stepWriter, carry}
-use Rattle.protocol.specs.Allowed.{allowedWriting}
 use Rattle.protocol.specs.Memory.{storedWriting}
 use Rattle.protocol.specs.Load.{loadWriting}
 use Rattle.protocol.specs.declared.Command.the-variants.{WriterStep}

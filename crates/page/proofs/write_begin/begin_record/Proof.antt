@@ -1,11 +1,10 @@
 -- Each return is one branch of the protocol's `carry`.
 use borrow.Author.Needs.{needs}
 use mathlib.Core.Path.{_≡_, refl, sym, ap, _∙_}
-use mathlib.Core.Bool.{true}
 use Prim.Native.Nat.{ℕ, _+_, _/_, _<_}
 use native.Mathlib.Omega.{arith}
 use lib.ListN.{length}
-use Rattle.radix.specs.Digits.{product, value}
+use Rattle.radix.specs.Digits.{value}
 use Rattle.radix.specs.declared.VersionRead.{VersionRead}
 use Rattle.protocol.specs.Form.{Form, formOf, versionBases}
 use Rattle.protocol.specs.Layout.{v1, look}

@@ -1,8 +1,7 @@
 -- The byte of the record at this step; `layout` says where it goes.
 use borrow.Author.Needs.{needs}
 use mathlib.Core.Path.{ap₂, _∙_}
-use Prim.Native.Nat.{suc, _+_, _*_, _-_, _<_}
-use native.Mathlib.Nat.{suc-mul}
+use Prim.Native.Nat.{_+_, _*_, _-_, _<_}
 use native.Mathlib.Omega.{arith}
 use lib.ListN.{length}
 use Rattle.protocol.specs.Form.{Form, formOf}

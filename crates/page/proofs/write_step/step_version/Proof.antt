@@ -1,6 +1,6 @@
 -- The digit is put where `layout` says, and the writer goes on by one step.
 use borrow.Author.Needs.{needs}
-use mathlib.Core.Path.{_≡_, refl, sym, ap, _∙_}
+use mathlib.Core.Path.{_≡_, ap, _∙_}
 use mathlib.Core.Bool.{true}
 use Rattle.protocol.specs.Form.{Form, formOf, recordSteps}
 use Rattle.protocol.specs.State.{busyWriting}

@@ -1,6 +1,6 @@
 -- Each arm is one clause of the protocol's `carry`.
 use borrow.Author.Needs.{needs}
-use mathlib.Core.Path.{_≡_, sym, ap, _∙_}
+use mathlib.Core.Path.{sym, ap, _∙_}
 use Rattle.protocol.specs.Form.{Form, formOf}
 use Rattle.page.specs.Writes.{writes}
 use Rattle.page.proofs.Writes.Writers.{answered, nothing-pending}
