@@ -1,6 +1,6 @@
 -- The refusals at the start of a call, from the lengths of what is lent.
 use mathlib.Core.List.{List}
-use mathlib.Core.Bool.{Bool, _&&_, not, cond}
+use mathlib.Core.Bool.{Bool, true, false, _&&_, not, cond}
 use Prim.Native.Nat.{ℕ, _+_, _*_, _%_}
 use lib.Dec.{eqb, leb}
 use lib.ListN.{length}
@@ -31,3 +31,7 @@ openingOf F p k b c r =
     cond (not (goodForm F)) (Refused BadFormat)
     (cond (not (sizesOk F p k b && eqb r (F .n))) (Refused WrongLength)
     (cond (leb (product (F .bases)) (c .0)) (Refused CountTooLarge) Finished))
+
+abbrev pub refusing : Ending → Bool
+refusing Finished = false
+refusing (Refused why) = true

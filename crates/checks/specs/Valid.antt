@@ -2,9 +2,10 @@
 use mathlib.Core.List.{List}
 use mathlib.Core.Bool.{Bool, _&&_}
 use Prim.Native.Nat.{ℕ}
+use lib.ListN.{replicate}
 use Rattle.protocol.specs.Form.{Form}
 use Rattle.protocol.specs.Allowed.{allowedWriting, allowedReading}
-use Rattle.protocol.specs.Memory.{storedWriting, storedReading}
+use Rattle.protocol.specs.Memory.{storedWriting, storedReading, stageAt, readerOf}
 use Rattle.protocol.specs.Load.{loadWriting, loadReading, sameWriter, sameReader}
 use Rattle.protocol.specs.declared.Writer.{Writer}
 use Rattle.protocol.specs.declared.Reader.{Reader}
@@ -14,3 +15,7 @@ validWriter F S w = allowedWriting F S (loadWriting w) && sameWriter (storedWrit
 
 unfoldable pub validReader : Form → Reader → Bool
 validReader F x = allowedReading F (loadReading F x) && sameReader (storedReading F (loadReading F x)) x
+
+-- the one state without a read
+abbrev pub idleReader : Reader
+idleReader = readerOf (stageAt 0 0 0 0) (replicate 16 0)

@@ -10,3 +10,4 @@ pub use formats::good_format;
 pub use readers::reader_valid;
 pub use starts::checked;
 pub use starts::opens;
+pub use starts::refuses;

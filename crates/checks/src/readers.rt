@@ -13,14 +13,14 @@ use protocol::Format;
 use protocol::Reader;
 use protocol::Stage;
 
-// The sum of n digits from a place on.
-fn sum(digits: &[u8], at: usize, n: usize) -> u16
-    requires { ⌜ (n ≤ 16) × (at + n ≤ length (now digits)) ⌝ }
-    ensures { λ r. ⌜ r ≡ sumOf (now (digits .entry)) at n ⌝ }
+// The sum of eight digits from a place on.
+fn sum(digits: &[u8], at: usize) -> u16
+    requires { ⌜ at + 8 ≤ length (now digits) ⌝ }
+    ensures { λ r. ⌜ r ≡ sumOf (now (digits .entry)) at 8 ⌝ }
 {
     let mut sum: u16 = 0;
     let mut p: usize = 0;
-    while p < n {
+    while p < 8 {
         sum = sum + digits[at + p] as u16;
         p = p + 1;
     }
@@ -34,7 +34,7 @@ fn eight_valid(bases: &[u16], digits: &[u8], at: usize, low: usize, high: usize)
         (at + 8 ≤ length (now digits)) ⌝ }
     ensures { λ r. ⌜ r ≡ eightOk (now (bases .entry)) (now (digits .entry)) at low high ⌝ }
 {
-    let mut left = sum(digits, at, 8);
+    let mut left = sum(digits, at);
     let mut p = low;
     while p < high {
         let d = digits[at + p] as u16;
@@ -66,12 +66,18 @@ fn digits_valid(bases: &[u16], digits: &[u8], g: usize) -> bool
     eight_valid(bases, digits, 8, w - (g - w), w)
 }
 
-// Is none of the sixteen gathered? Their sum tells: so none of them is looked at by itself.
+// Is none of the sixteen gathered? The bits of all tell: so none of them is looked at by itself.
 fn none_gathered(bases: &[u16], digits: &[u8]) -> bool
     requires { ⌜ (length (now bases) ≤ 8) × (length (now digits) ≡ 16) ⌝ }
     ensures { λ r. ⌜ r ≡ gatheredOk (now (bases .entry)) (now (digits .entry)) 0 ⌝ }
 {
-    sum(digits, 0, 16) == 0
+    let mut bits: u8 = 0;
+    let mut p: usize = 0;
+    while p < 16 {
+        bits = bits | digits[p];
+        p = p + 1;
+    }
+    bits == 0
 }
 
 // A record read.

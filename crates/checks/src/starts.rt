@@ -2,7 +2,7 @@
 ghost use mathlib.Core.Path.{_≡_};
 ghost use mathlib.Core.Bool.{true};
 ghost use Rattle.protocol.specs.Form.{formOf, goodForm};
-ghost use Rattle.checks.specs.Start.{sizesOk, startOf, openingOf};
+ghost use Rattle.checks.specs.Start.{sizesOk, startOf, openingOf, refusing};
 use crate::formats;
 use crate::layout;
 use crate::pages;
@@ -84,4 +84,13 @@ pub fn opens(
         return Ending::Refused(Refusal::CountTooLarge);
     }
     Ending::Finished
+}
+
+pub fn refuses(e: Ending) -> bool
+    ensures { λ r. ⌜ r ≡ refusing e ⌝ }
+{
+    match e {
+        Ending::Finished => false,
+        Ending::Refused(_) => true,
+    }
 }

@@ -2,8 +2,8 @@
 mod commands;
 mod entries;
 mod numbers;
+mod packing;
 mod pasting;
-mod states;
 
 pub use commands::decode;
 pub use commands::encode;
@@ -11,10 +11,10 @@ pub use entries::outcome;
 pub use entries::put;
 pub use entries::size;
 pub use numbers::number;
+pub use packing::pack;
+pub use packing::unpack;
 pub use pasting::put_bytes;
 use protocol::Command;
-pub use states::pack;
-pub use states::unpack;
 
 pub enum Decoded {
     // No byte is left.

@@ -1,16 +1,16 @@
 -- What an opening answers, and what was lent as it leaves it.
 use mathlib.Core.List.{List}
-use mathlib.Core.Bool.{Bool, true, false}
 use Prim.Native.Nat.{ℕ, _+_}
 use lib.ListN.{length, replicate}
 use Rattle.radix.specs.declared.Count.{Count}
 use Rattle.protocol.specs.Form.{Form, countSteps, recordSteps}
-use Rattle.protocol.specs.Memory.{Memory, stageAt, readerOf}
+use Rattle.protocol.specs.Memory.{Memory}
 use Rattle.protocol.specs.Run.{openPage}
 use Rattle.protocol.specs.declared.Ending.{Ending}
 use Rattle.protocol.specs.declared.Ending.the-variants.{Finished, Refused}
 use Rattle.protocol.specs.declared.Reader.{Reader}
 use Rattle.protocol.specs.declared.Writer.{Writer}
+use Rattle.checks.specs.Valid.{idleReader}
 use Rattle.fresh.specs.declared.Opened.{Opened}
 
 -- how long a page is
@@ -20,13 +20,6 @@ pageLength F = countSteps F + recordSteps F
 -- what is lent
 abbrev pub lent : (page : List ℕ) → Writer → List Reader → (buffers : List ℕ) → Memory
 lent p w rs b = record { page = p; writer = w; readers = rs; buffers = b }
-
-abbrev pub idleReader : Reader
-idleReader = readerOf (stageAt 0 0 0 0) (replicate 16 0)
-
-abbrev pub refusing : Ending → Bool
-refusing Finished = false
-refusing (Refused why) = true
 
 pub record OpenedLent : Type 0 where
   pub opened : Opened

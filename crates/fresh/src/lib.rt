@@ -4,7 +4,6 @@ mod opening;
 
 pub use filling::zero;
 pub use opening::open_page;
-pub use opening::refuses;
 pub use opening::resting;
 pub use opening::was_refused;
 use protocol::Ending;

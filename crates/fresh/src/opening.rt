@@ -6,7 +6,8 @@ ghost use Rattle.protocol.specs.Form.{formOf};
 ghost use Rattle.protocol.specs.State.{resting as atRest};
 ghost use Rattle.protocol.specs.Memory.{storedWriting};
 ghost use Rattle.protocol.specs.declared.Reader.{Reader as State};
-ghost use Rattle.fresh.specs.Opening.{lent, refusing, openedLent, openLent, openedReaders};
+ghost use Rattle.checks.specs.Start.{refusing};
+ghost use Rattle.fresh.specs.Opening.{lent, openedLent, openLent, openedReaders};
 use crate::Opened;
 use crate::filling;
 use protocol::Ending;
@@ -28,21 +29,12 @@ pub fn resting() -> Writer
     }
 }
 
-pub fn refuses(e: Ending) -> bool
-    ensures { λ r. ⌜ r ≡ refusing e ⌝ }
-{
-    match e {
-        Ending::Finished => false,
-        Ending::Refused(_) => true,
-    }
-}
-
 // Was the opening refused?
 pub fn was_refused(o: Opened) -> bool
     ensures { λ r. ⌜ r ≡ refusing (o .ending) ⌝ }
 {
     let e = o.ending;
-    refuses(e)
+    checks::refuses(e)
 }
 
 fn refused(e: Ending, w: Writer) -> Opened
@@ -79,7 +71,7 @@ pub fn open_page(
         Count(count.0),
         record.len(),
     );
-    if refuses(e) {
+    if checks::refuses(e) {
         return refused(e, writer);
     }
     filling::fill_page(format, bases, page, count, record);

@@ -6,7 +6,7 @@ use Rattle.protocol.specs.Form.{Form}
 use Rattle.protocol.specs.Memory.{Memory}
 use Rattle.protocol.specs.Outcome.{endingNumber}
 use Rattle.protocol.specs.Run.{openPage}
-use Rattle.page.specs.Calls.{cancelLent}
+use Rattle.hall.specs.Cancel.{cancelLent}
 use Rattle.packed.specs.States.{packAll, unpackAll}
 use Rattle.protocol.specs.declared.Reader.{Reader}
 

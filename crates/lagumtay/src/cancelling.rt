@@ -26,6 +26,6 @@ pub extern "C" fn lagumtay_cancel(
 {
     let f = *format;
     let w = *writer;
-    let e = page::cancel(readers, f, bases, page, w, buffers, records, who);
+    let e = hall::cancel(readers, f, bases, page, w, buffers, records, who);
     protocol::ending_number(e)
 }

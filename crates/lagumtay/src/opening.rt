@@ -29,7 +29,7 @@ pub extern "C" fn lagumtay_open(
 {
     let f = *format;
     let w = *writer;
-    let o = page::open(readers, f, bases, page, w, buffers, count, record);
+    let o = hall::open(readers, f, bases, page, w, buffers, count, record);
     *writer = o.writer;
     let e = o.ending;
     protocol::ending_number(e)

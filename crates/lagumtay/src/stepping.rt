@@ -171,7 +171,7 @@ pub extern "C" fn lagumtay_step(
     let w = *writer;
     let o = *order;
     let x = command_of(o);
-    let s = page::step(readers, f, bases, page, w, buffers, records, x);
+    let s = hall::step(readers, f, bases, page, w, buffers, records, x);
     let e = end(o, s);
     *writer = e.writer;
     *outcome = e.outcome;

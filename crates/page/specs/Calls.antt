@@ -3,7 +3,7 @@ use mathlib.Core.Path.{_≡_}
 use mathlib.Core.List.{List, [], _∷_, _++_}
 use mathlib.Core.Bool.{cond, _&&_, not}
 use Prim.Native.Nat.{ℕ, zero, suc, _+_, _-_, _%_}
-use lib.Dec.{eqb, leb}
+use lib.Dec.{eqb}
 use lib.ListN.{length}
 use Rattle.radix.specs.declared.Count.{Count}
 use Rattle.protocol.specs.Form.{Form, goodForm}
@@ -17,7 +17,7 @@ use Rattle.protocol.specs.declared.Command.{Command}
 use Rattle.protocol.specs.declared.Ending.{Ending}
 use Rattle.protocol.specs.declared.Ending.the-variants.{Finished}
 use Rattle.protocol.specs.declared.Outcome.the-variants.{Nothing}
-use Rattle.protocol.specs.declared.Refusal.the-variants.{BadFormat, WrongLength, InvalidState, NothingPending, NoSuch}
+use Rattle.protocol.specs.declared.Refusal.the-variants.{BadFormat, WrongLength, InvalidState}
 use Rattle.protocol.specs.declared.Reader.{Reader}
 use Rattle.protocol.specs.declared.Writer.{Writer}
 use Rattle.codec.specs.Encode.{encode}
@@ -26,7 +26,6 @@ use Rattle.page.specs.declared.Answer.{Answer}
 use Rattle.page.specs.declared.Answer.the-variants.{Done, Refused}
 use Rattle.page.specs.declared.Ran.{Ran}
 use Rattle.page.specs.declared.Stepped.{Stepped}
-use Rattle.page.specs.Start.{refusing}
 use Rattle.page.specs.Carry.{After, after, carryLent}
 
 -- A RUN
@@ -89,28 +88,6 @@ onStart F S L x Finished = carryLent F S anyRoom L x
 
 abbrev pub stepLent : Form → (records : List ℕ) → Memory → Command → After
 stepLent F S L x = onStart F S L x (startLent F S L)
-
--- A CANCELLED READ: the step of its command
-pub record EndedLent : Type 0 where
-  pub ending : Ending
-  pub memory : Memory
-
-abbrev pub endedLent : Ending → Memory → EndedLent
-endedLent e L = record { ending = e; memory = L }
-
-abbrev pub endingOf : Answer → Ending
-endingOf (Done o) = Finished
-endingOf (Refused why) = Ending.Refused why
-
-unfoldable pub cancelLent : Form → (records : List ℕ) → Memory → (who : ℕ) → EndedLent
-cancelLent F S L who = let x = stepLent F S L (Command.Cancel who) in endedLent (endingOf (x .answer)) (x .memory)
-
--- how the code finds its refusals: there is no such reader; it has no read
-abbrev pub foundIn : Ending → (readers who : ℕ) → Ending
-foundIn e n i = cond (refusing e) e (cond (leb n i) (Ending.Refused NoSuch) Finished)
-
-abbrev pub readsIn : Reader → Ending
-readsIn x = cond (eqb (x .stage .kind) 0) (Ending.Refused NothingPending) Finished
 
 -- DEMAND 3 FOR THE CALLER: whatever list of runs from an accepted opening left what is lent now, the claim holds of
 -- that list with this run added, if each run's records go on with those before

@@ -17,7 +17,8 @@ use Rattle.page.specs.declared.Answer.{Answer}
 use Rattle.page.specs.declared.Answer.the-variants.{Done, Refused}
 use Rattle.page.specs.declared.pen.Carried.{Carried}
 use Rattle.page.specs.Reads.{Read, readsAt}
-pub use Rattle.fresh.specs.Opening.{lent, idleReader}
+pub use Rattle.checks.specs.Valid.{idleReader}
+pub use Rattle.fresh.specs.Opening.{lent}
 
 -- what holds at every command of a run
 pub record Ready (F : Form) (S : List ℕ) (L : Memory) : Type 0 where

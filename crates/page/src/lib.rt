@@ -1,31 +1,25 @@
-// The page library: the opening, the run, one command, a cancel, over the caller's slice of readers, in place.
+// The run: commands carried out one after another over the caller's slice of readers, in place.
 //
 // What a reader or the writer does is over ONE reader, its digits and its buffer lent, and over the writer by value.
 mod begins;
-mod cancelling;
 mod count_read;
 mod finishing;
 mod looping;
-mod opening;
 mod pen;
 mod reading;
 mod record_read;
 mod running;
-mod starting;
 mod stepping;
 mod turning;
 mod write_begin;
 mod write_step;
 mod writing;
 
-pub use cancelling::cancel;
-pub use opening::open;
 use protocol::Ending;
 use protocol::Outcome;
 use protocol::Refusal;
 use protocol::Writer;
 pub use running::run;
-pub use stepping::step;
 pub use stepping::step_of_run;
 
 // What a run answers: commands carried out, bytes of the commands taken, bytes written into the log, how it ended; and

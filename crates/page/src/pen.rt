@@ -2,8 +2,8 @@
 ghost use mathlib.Core.Path.{_≡_};
 ghost use mathlib.Core.Bool.{true};
 ghost use Prim.Native.Nat.{_<_};
-ghost use lib.ListN.{length, getD};
-ghost use Rattle.radix.specs.Digits.{bytes, ofBytes};
+ghost use lib.ListN.{getD};
+ghost use Rattle.radix.specs.Digits.{bytes};
 ghost use Rattle.protocol.specs.Form.{formOf, versionBases, goodForm};
 ghost use Rattle.page.specs.Pen.{Knows, inkOf, inked, Writable};
 use crate::Answer;
@@ -53,26 +53,6 @@ pub(crate) fn refused(why: Refusal, p: Pen) -> Carried
     }
 }
 
-fn wide(x: u8) -> u64
-    ensures { λ r. ⌜ r ≡ x ⌝ }
-{
-    x as u64
-}
-
-// Eight bytes in one number.
-fn joined(l: &[u8]) -> u64
-    requires { ⌜ length (now l) ≡ 8 ⌝ }
-    ensures { λ r. ⌜ r ≡ ofBytes (now (l .entry)) ⌝ }
-{
-    let mut x: u64 = 0;
-    let mut k: usize = 0;
-    while k < 8 {
-        x = x * 256 + wide(l[k]);
-        k = k + 1;
-    }
-    x
-}
-
 // Digit j.
 pub(crate) fn digit(ink: u64, j: usize) -> u8
     requires { ⌜ j < 8 ⌝ }
@@ -92,7 +72,7 @@ pub(crate) fn of_count(format: Format, bases: &[u16], c: Count) -> Inked
     let Written::Done = radix::counts::write(bases, c, &mut out[..m]) else {
         return Inked::TooLarge;
     };
-    Inked::Is(joined(&out))
+    Inked::Is(codec::number(&out, 0, 8))
 }
 
 // The digits of a version.
@@ -105,7 +85,7 @@ pub(crate) fn of_version(format: Format, bases: &[u16], v: Version) -> Inked
     let Written::Done = radix::versions::write(format.base, q, v, &mut out[..q]) else {
         return Inked::TooLarge;
     };
-    Inked::Is(joined(&out))
+    Inked::Is(codec::number(&out, 0, 8))
 }
 
 // The digits of the pending write, made if they are not known.

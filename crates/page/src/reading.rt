@@ -156,15 +156,7 @@ pub(crate) fn read_at(
             )
         }
         Command::Cancel(_) => begins::drop_read(format, bases, stage, digits),
-        Command::WriteCount(_) => Taken {
-            answer: Answer::Refused(Refusal::NoSuch),
-            stage: stage,
-        },
-        Command::WriteRecord(_) => Taken {
-            answer: Answer::Refused(Refusal::NoSuch),
-            stage: stage,
-        },
-        Command::WriterStep => Taken {
+        Command::WriteCount(_) | Command::WriteRecord(_) | Command::WriterStep => Taken {
             answer: Answer::Refused(Refusal::NoSuch),
             stage: stage,
         },

@@ -15,7 +15,6 @@ use crate::looping;
 use crate::looping::Standing;
 use crate::pen;
 use crate::reading;
-use crate::starting;
 use crate::turning;
 use crate::write_step;
 use codec::Decoded;
@@ -179,8 +178,8 @@ pub fn run(
         (record { given = now (commands .entry); log = now (log .entry) }) ⌝ }
 {
     let b = buffers.len();
-    let e = starting::start(readers, format, bases, page, writer, b, records);
-    if fresh::refuses(e) {
+    let e = states::start(readers, format, bases, page, writer, b, records);
+    if checks::refuses(e) {
         return refused_run(e, writer);
     }
     run_all(

@@ -4,6 +4,7 @@ use mathlib.Core.List.{List}
 use mathlib.Core.Bool.{Bool, true, false, _&&_, cond}
 use Prim.Native.Nat.{ℕ, zero, suc, _+_, _-_, _≤_, _<_}
 use native.Mathlib.Omega.{arith}
+use lib.Bits.{bitOr, or-add-and, and-le-l, and-le-r}
 use lib.Dec.{eqb, ltb, leb}
 use lib.ListN.{getD}
 use borrow.Author.Tests.{le-leb, lt-leb, lt-ltb, le-ltb, eqb-true, eq-eqb}
@@ -21,6 +22,14 @@ both-zero a b =
     eq-eqb (a + b) 0 (omega (arith, eqb-true a 0 x, eqb-true b 0 y)))
     (λ h. let e = eqb-true (a + b) 0 h in together (eq-eqb a 0 (omega arith)) (eq-eqb b 0 (omega arith)))
 
+-- so are their bits together
+bits-both : (a b c : ℕ) → eqb (bitOr a b + c) 0 ≡ eqb (a + (b + c)) 0
+bits-both a b c =
+    same-test (eqb (bitOr a b + c) 0) (eqb (a + (b + c)) 0)
+    (λ h. eq-eqb (a + (b + c)) 0
+    (omega (arith, eqb-true (bitOr a b + c) 0 h, or-add-and a b, and-le-l a b, and-le-r a b)))
+    (λ h. eq-eqb (bitOr a b + c) 0 (omega (arith, eqb-true (a + (b + c)) 0 h, or-add-and a b)))
+
 module _ (l : List ℕ) where
   -- one turn of a loop over the digits below n
   pub sum-first :
@@ -35,6 +44,16 @@ module _ (l : List ℕ) where
   pub sum-end : (at p n : ℕ) → n ≤ p → sumOf l at (n - p) ≡ 0
   unfolding sumOf
   sum-end at p n h = let e : n - p ≡ 0 = omega arith in rw e
+
+  -- one turn of a loop over the bits of sixteen
+  pub bits-first :
+      (bits p : ℕ) → p < 16 →
+      eqb (bitOr bits (getD l p 0) + sumOf l (p + 1) (16 - (p + 1))) 0 ≡ eqb (bits + sumOf l p (16 - p)) 0
+  bits-first bits p h =
+      let e : 0 + p ≡ p = omega arith in
+      let f : 0 + (p + 1) ≡ p + 1 = omega arith in
+      bits-both bits (getD l p 0) (sumOf l (p + 1) (16 - (p + 1)))
+      ∙ ap (λ s. eqb (bits + s) 0) (sym (rw (e, f) at (sum-first 0 p 16 h)))
 
   sum-split : (at m n : ℕ) → sumOf l at (m + n) ≡ sumOf l at m + sumOf l (at + m) n
   unfolding sumOf

@@ -8,8 +8,8 @@ use lib.ListN.{length, replicate}
 use Rattle.protocol.specs.declared.Ending.{Ending}
 use Rattle.protocol.specs.declared.Ending.the-variants.{Finished, Refused}
 use Rattle.protocol.specs.declared.Reader.{Reader}
-use Rattle.fresh.specs.Opening.{idleReader}
-use Rattle.fresh.specs.Opening.{refusing}
+use Rattle.checks.specs.Valid.{idleReader}
+use Rattle.checks.specs.Start.{refusing}
 use Rattle.fresh.specs.Opening.{openedReaders}
 
 pub is-finished : (e : Ending) → refusing e ≡ false → e ≡ Finished

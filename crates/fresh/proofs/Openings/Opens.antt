@@ -18,8 +18,9 @@ use Rattle.protocol.specs.declared.Writer.{Writer}
 use Rattle.protocol.proofs.Memory.Stored.{lengths-parts}
 use Rattle.checks.proofs.Parts.{sizes-lengths}
 use Rattle.checks.proofs.Opening.{openingIn, opens, open-refused, open-goes}
-use Rattle.fresh.specs.Opening.{lent, idleReader}
-use Rattle.fresh.specs.Opening.{refusing}
+use Rattle.checks.specs.Valid.{idleReader}
+use Rattle.fresh.specs.Opening.{lent}
+use Rattle.checks.specs.Start.{refusing}
 use Rattle.fresh.specs.Opening.{openedLent, openLent, openedReaders}
 
 idle-readers : (F : Form) (k : ℕ) → map (storedReading F) (replicate k idle) ≡ replicate k idleReader

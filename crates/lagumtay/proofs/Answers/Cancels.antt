@@ -6,7 +6,7 @@ use Rattle.protocol.specs.Form.{Form}
 use Rattle.protocol.specs.Memory.{Memory}
 use Rattle.protocol.specs.Outcome.{endingNumber}
 use Rattle.protocol.specs.declared.Ending.{Ending}
-use Rattle.page.specs.Calls.{EndedLent, endedLent, cancelLent}
+use Rattle.hall.specs.Cancel.{EndedLent, endedLent, cancelLent}
 use Rattle.lagumtay.specs.Calls.{left, cancelCall}
 
 pub cancelled :

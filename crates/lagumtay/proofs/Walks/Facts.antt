@@ -22,7 +22,7 @@ use denote.Triple.Clauses.{Ended, Clauses, Lasts, atExit, lasts, closing}
 use denote.Triple.Entry.{Res, alive, onEntry}
 use denote.Triple.Spec.{tripleOf}
 use denote.Triple.Statement.{Contract, Triple}
-use Rattle.page.proofs.Walks.Rules.Call.{calls-with}
+use Rattle.states.proofs.Walks.Call.{calls-with}
 use Rattle.lagumtay.proofs.Walks.Apart.{tokens, toks-are}
 
 -- two facts are one

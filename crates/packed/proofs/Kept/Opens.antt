@@ -22,7 +22,7 @@ use Rattle.checks.proofs.Opening.{openingIn, opens, open-refused}
 use Rattle.codec.specs.Packed.{packed}
 use Rattle.fresh.specs.declared.Opened.{Opened}
 use Rattle.page.specs.Carry.{lent, idleReader}
-use Rattle.page.specs.Start.{refusing}
+use Rattle.checks.specs.Start.{refusing}
 use Rattle.fresh.specs.Opening.{OpenedLent, openedLent, openLent, openedReaders}
 use Rattle.packed.specs.States.{packAll, unpackFrom}
 use Rattle.packed.specs.Kept.{Kept, kept, statesOf, unpackedOf, packedOver, openedKept, openKept}

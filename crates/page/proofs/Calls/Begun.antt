@@ -19,7 +19,7 @@ use Rattle.checks.proofs.Endings.{not-finished}
 use Rattle.checks.proofs.Opening.{opensInto}
 use Rattle.checks.proofs.Begins.{goesOn}
 use Rattle.page.specs.Carry.{Ready}
-use Rattle.page.specs.Start.{refusing}
+use Rattle.checks.specs.Start.{refusing}
 use Rattle.page.specs.Calls.{startLent, ranLent, refusedRan, bytesOf, runLent}
 
 module _ (F : Form) (S : List ℕ) (L : Memory) where

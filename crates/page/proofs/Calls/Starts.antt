@@ -1,4 +1,4 @@
--- Refusals 1 to 3: as the code finds them, and as the protocol's definitions have them.
+-- Refusals 1 to 3 as the code finds them are the protocol's.
 use mathlib.Core.Path.{_≡_, refl}
 use mathlib.Core.List.{List, [], _∷_}
 use mathlib.Core.Bool.{Bool, true, false, _&&_, not, cond}
@@ -13,29 +13,13 @@ use Rattle.protocol.specs.declared.Ending.{Ending}
 use Rattle.protocol.specs.declared.Ending.the-variants.{Finished, Refused}
 use Rattle.protocol.specs.declared.Refusal.the-variants.{BadFormat, WrongLength, InvalidState}
 use Rattle.protocol.specs.declared.Reader.{Reader}
-use Rattle.protocol.specs.declared.Writer.{Writer}
 use Rattle.checks.specs.Layout.{small}
 use Rattle.checks.specs.Valid.{validWriter, validReader}
-use Rattle.checks.specs.Start.{sizesOk, startOf}
+use Rattle.checks.specs.Start.{sizesOk, startOf, refusing}
 use Rattle.checks.proofs.Parts.{valid-parts, sizes-lengths, valid-good}
-use Rattle.page.specs.Start.{refusing, startIf, startFrom}
+use Rattle.states.specs.Start.{startIf, startFrom}
 use Rattle.page.specs.Calls.{startLent}
 
--- WHAT THE CODE ANSWERS
-module _ (F : Form) (S page : List ℕ) (w : Writer) (k b : ℕ) {e : Ending} (tested : e ≡ startOf F S page w k b) where
-  pub start-refused : (valid : Bool) → refusing e ≡ true → e ≡ startIf F S page w k b valid
-  unfolding startIf
-  start-refused valid h = rw (← tested, h)
-
-  pub start-valid : (valid : Bool) → refusing e ≡ false → valid ≡ true → e ≡ startIf F S page w k b valid
-  unfolding startIf
-  start-valid valid h v = rw (← tested, h, v)
-
-  pub start-invalid : (valid : Bool) → refusing e ≡ false → valid ≡ false → Refused InvalidState ≡ startIf F S page w k b valid
-  unfolding startIf
-  start-invalid valid h v = rw (← tested, h, v)
-
--- IT IS THE PROTOCOL'S START
 -- what the code answers of the readers, where the format is good
 all-valid : (F : Form) → goodForm F ≡ true → (rs : List Reader) →
     every (λ x. small F && validReader F x) rs ≡ every (validReader F) rs

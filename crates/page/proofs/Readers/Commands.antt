@@ -1,12 +1,15 @@
 -- What one command of a reader leaves, in all buffers.
 use mathlib.Core.Path.{_≡_, refl, sym, ap, _∙_}
-use mathlib.Core.List.{List, []}
+use mathlib.Core.List.{List, [], _∷_}
 use mathlib.Core.Bool.{Bool, true, false, cond}
-use Prim.Native.Nat.{ℕ, _+_, _*_, _-_}
+use mathlib.Core.Logic.{⊎-elim}
+use Prim.Native.Nat.{ℕ, _+_, _*_, _-_, _≤_}
+use native.Mathlib.Omega.{arith}
 use lib.Dec.{eqb}
 use lib.ListN.{take, drop, getD}
 use borrow.Rule.Slice.PartMut.{putMid}
-use Rattle.radix.specs.declared.Count.{Count}
+use denote.Enum.Declared.{tagOf}
+use types.Run.{OneOf}
 use Rattle.protocol.specs.Form.{Form}
 use Rattle.protocol.specs.State.{Reading, idle, ofCount, ofRecord, busyReading}
 use Rattle.protocol.specs.Step.{Gathered, gathered, gather, nextPosition}
@@ -25,6 +28,7 @@ use Rattle.protocol.specs.declared.Command.the-variants.{
 use Rattle.protocol.specs.declared.Outcome.the-variants.{Nothing}
 use Rattle.protocol.specs.declared.Refusal.the-variants.{Busy, NothingPending, NoSuch}
 use Rattle.protocol.specs.declared.Reader.{Reader}
+use Rattle.protocol.proofs.Command.{the-type}
 use Rattle.page.specs.declared.Answer.the-variants.{Done, Refused}
 use Rattle.page.specs.declared.finishing.Taken.{Taken}
 use Rattle.page.specs.Left.{
@@ -41,6 +45,13 @@ use Rattle.page.specs.Left.{
 use Rattle.page.specs.Reads.{reads, part, putPart, read, readBy, readsAt, whoseOf}
 use Rattle.page.proofs.Readers.Stored.{quiet}
 use Rattle.page.proofs.Readers.Buffers.{put-own, lent-part, back-part}
+
+-- the writer's commands are the first three: the code tells by the tag alone
+abbrev IsWriter : Command → Type 0
+IsWriter c = OneOf (0 ∷ 1 ∷ 2 ∷ []) (tagOf the-type c)
+
+first-three : (n : ℕ) → OneOf (0 ∷ 1 ∷ 2 ∷ []) n → n ≤ 2
+first-three n h = ⊎-elim (λ e. omega (arith, e)) (⊎-elim (λ e. omega (arith, e)) (λ e. omega (arith, e))) h
 
 module _ (F : Form) (page : List ℕ) (i room : ℕ) (x : Reader) (bs : List ℕ) where
   abbrev b : List ℕ
@@ -98,6 +109,18 @@ module _ (F : Form) (page : List ℕ) (i room : ℕ) (x : Reader) (bs : List ℕ
     kept : leftBy t l b ≡ meant (reads F page i y b c) → readBy t l bs ≡ readsAt F page i room x bs c
     kept e = ap (readBy t l) (sym (put-own (F .n) i bs)) ∙ placed b e
 
+  -- the writer's commands are none of a reader's
+  pub not-reader : (c : Command) → IsWriter c
+      → readBy (record { answer = Refused NoSuch; stage = x .stage }) (x .digits) bs ≡ readsAt F page i room x bs c
+  unfolding reads onGathered
+  not-reader (WriteCount v) h = kept (WriteCount v) _ (x .digits) refl
+  not-reader (WriteRecord k) h = kept (WriteRecord k) _ (x .digits) refl
+  not-reader WriterStep h = kept WriterStep _ (x .digits) refl
+  not-reader (BeginCountRead r) h = absurd (omega (arith, first-three 3 h))
+  not-reader (BeginRecordRead r a) h = absurd (omega (arith, first-three 4 h))
+  not-reader (ReaderStep r) h = absurd (omega (arith, first-three 5 h))
+  not-reader (Cancel r) h = absurd (omega (arith, first-three 6 h))
+
   module _ (c : Command) where
     abbrev Reads : Taken → (digits buffers : List ℕ) → Type 0
     Reads t l bs′ = readBy t l bs′ ≡ readsAt F page i room x bs c
@@ -115,22 +138,6 @@ module _ (F : Form) (page : List ℕ) (i room : ℕ) (x : Reader) (bs : List ℕ
     pub reads-cancel : (r : ℕ) → c ≡ Cancel r → (t : Taken) (l : List ℕ) → Leaves t l (cancelled F x) → Reads t l bs
     unfolding reads
     reads-cancel r e t l h = kept c t l (h b ∙ cancel-meant ∙ ap (λ z. meant (reads F page i y b z)) (sym e))
-
-    -- the writer's commands are none of a reader's
-    abbrev none : Taken
-    none = record { answer = Refused NoSuch; stage = x .stage }
-
-    pub not-count : (v : Count) → c ≡ WriteCount v → Reads none (x .digits) bs
-    unfolding reads onGathered
-    not-count v e = kept c none (x .digits) (ap (λ z. meant (reads F page i y b z)) (sym e))
-
-    pub not-record : (k : ℕ) → c ≡ WriteRecord k → Reads none (x .digits) bs
-    unfolding reads onGathered
-    not-record k e = kept c none (x .digits) (ap (λ z. meant (reads F page i y b z)) (sym e))
-
-    pub not-step : c ≡ WriterStep → Reads none (x .digits) bs
-    unfolding reads onGathered
-    not-step e = kept c none (x .digits) (ap (λ z. meant (reads F page i y b z)) (sym e))
 
     -- A STEP, as the code lends the buffer
     module _ (r : ℕ) (e : c ≡ ReaderStep r) (own : whoseOf c (F .readers) ≡ i) where

@@ -1,4 +1,3 @@
-pub mod Empty
 pub mod TurnRest
 pub mod ReadTurn
 pub mod TurnAt

@@ -7,7 +7,7 @@ use native.Mathlib.Nat.{mod-lt, sub-zero, zero-sub, suc-sub-suc}
 use native.Mathlib.Omega.{arith}
 use lib.Dec.{ltb}
 use lib.ListN.{length, getD, take, drop, replicate, length-append, length-replicate, List·getD-append}
-use lib.Seq.{length-take-le}
+use lib.Seq.{length-take-le, take-all}
 use borrow.Author.Tests.{ltb-true, ltb-false, eq-eqb, le-leb}
 use Rattle.radix.specs.Digits.{product, digits, Valid, none, more, bytes, ofBytes}
 use Rattle.radix.specs.declared.Version.{Version}
@@ -19,6 +19,8 @@ use Rattle.radix.specs.declared.Written.the-variants.{Done}
 use Rattle.radix.proofs.Theorems.RoundTrip.{length-digits, bytes-ofBytes}
 use Rattle.radix.proofs.Numbers.Bases.{Good, few, each, least, most, others}
 use Rattle.protocol.specs.Memory.{eight}
+use Rattle.codec.specs.Number.{numberIn}
+use Rattle.codec.proofs.Bytes.{all-there}
 use Rattle.page.specs.declared.pen.Inked.{Inked}
 use Rattle.page.specs.Pen.{inked}
 
@@ -76,6 +78,10 @@ drop-zeros (suc n) (suc m) = drop-zeros n m ∙ ap (λ k. replicate k 0) (sym (s
 abbrev eight-zeros : List ℕ
 eight-zeros = replicate 8 0
 
+number-of : (l : List ℕ) → length l ≡ 8 → numberIn l 0 8 ≡ ofBytes l
+number-of l h =
+    sym (all-there l 0 8 (omega arith) (omega (arith, h))) ∙ ap ofBytes (take-all 8 l (omega (arith, h)))
+
 module _
     (bs : List ℕ)
     (x : ℕ)
@@ -113,12 +119,14 @@ module _
         go true a = (ap (λ (y : Into). y .out ++ drop m eight-zeros) a ∙ spread, refl)
         go false a = absurd (let z : _≡_ {A = ℕ} 0 1 = cc (ap (λ (y : Into). y .answer) a) in omega arith)
 
-    pub ink-written : r ≡ Done → Inked.Is (ofBytes (l ++ drop m eight-zeros)) ≡ inked bs x
-    unfolding inked
-    ink-written is = rw (written is .1) (ap (λ (z : List ℕ). Inked.Is (ofBytes z)) (written is .0))
-
     pub ink-long : r ≡ Done → length (l ++ drop m eight-zeros) ≡ 8
     ink-long is = ap length (written is .0) ∙ length-eight bs x good
+
+    pub ink-written : r ≡ Done → Inked.Is (numberIn (l ++ drop m eight-zeros) 0 8) ≡ inked bs x
+    unfolding inked
+    ink-written is =
+        ap Inked.Is (number-of (l ++ drop m eight-zeros) (ink-long is))
+        ∙ rw (written is .1) (ap (λ (z : List ℕ). Inked.Is (ofBytes z)) (written is .0))
 
     pub ink-unwritten : {y : Fault} → r ≡ Written.Refused y → Inked.TooLarge ≡ inked bs x
     unfolding inked

@@ -8,18 +8,17 @@ use Rattle.checks.proofs.readers.sum.Statement.{statement}
 use Rattle.checks.proofs.readers.sum.Tie as tie
 
 abbrev Inv-loop : tie.InvT-loop
-Inv-loop digits at n sum₀ p₀ sum p =
-    (sum ≤ p * 255) × (p ≤ n) × (sum + sumOf digits (at + p) (n - p) ≡ sumOf digits at n)
+Inv-loop digits at sum₀ p₀ sum p =
+    (sum ≤ p * 255) × (p ≤ 8) × (sum + sumOf digits (at + p) (8 - p) ≡ sumOf digits at 8)
 
 abbrev μ-loop : tie.MeasureT-loop
-μ-loop digits at n sum₀ p₀ sum p = n - p
+μ-loop digits at sum₀ p₀ sum p = 8 - p
 
 loop-holds : tie.Need-loop-holds Inv-loop μ-loop
 loop-holds c =
     let a = c .args in
     let e : a .at + 0 ≡ a .at = omega arith in
-    let f : a .n - 0 ≡ a .n = omega arith in
-    (omega arith, omega arith, rw (e, f) (omega arith))
+    (omega arith, omega arith, rw e (omega arith))
 
 add-sum : tie.Need-add-sum Inv-loop μ-loop
 add-sum c = omega arith
@@ -48,14 +47,14 @@ loop-again c =
     let p = t .before .loop .p in (
       omega (arith, c .shared-slice-known .given (a .at + p)),
       omega arith,
-      omega (arith, sum-first (a .digits .now) (a .at) p (a .n) (t .loop-test .taken)),
+      omega (arith, sum-first (a .digits .now) (a .at) p 8 (t .loop-test .taken)),
     )
 
 returns : tie.Need-returns Inv-loop μ-loop
 returns c =
     let l = c .before in
     let a = l .before .args in
-    omega (arith, sum-end (a .digits .now) (a .at + l .loop .p) (l .loop .p) (a .n) (c .loop-test .left))
+    omega (arith, sum-end (a .digits .now) (a .at + l .loop .p) (l .loop .p) 8 (c .loop-test .left))
 
 pub sum-spec : {M : Type 1} → statement M
 sum-spec =

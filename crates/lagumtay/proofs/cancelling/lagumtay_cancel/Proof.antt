@@ -44,10 +44,10 @@ use Rattle.protocol.proofs.Format.Laws as TF′
 use Rattle.protocol.proofs.Writer as TW
 use Rattle.protocol.proofs.Writer.Laws as TW′
 use Rattle.page.specs.Carry.{lent}
-use Rattle.page.specs.Calls.{endedLent, cancelLent}
-use Rattle.page.proofs.Walks.Rules.Flat.{_&_}
-use Rattle.page.proofs.Walks.Rules.Locals.{Slot, has, spread, wide, enters, leaves, arg}
-use Rattle.page.proofs.Walks.Rules.Again.{lends-on}
+use Rattle.hall.specs.Cancel.{endedLent, cancelLent}
+use Rattle.states.proofs.Walks.Flat.{_&_}
+use Rattle.states.proofs.Walks.Locals.{Slot, has, spread, wide, enters, leaves, arg}
+use Rattle.states.proofs.Walks.Again.{lends-on}
 use Rattle.lagumtay.proofs.Answers.Cancels.{cancelled}
 use Rattle.lagumtay.proofs.Walks.Lent.{the, lent-on, in-order, format, page, writer, readers, buffers, form}
 use Rattle.lagumtay.proofs.Walks.Lent.{memory, vals, params, held, loaded, handed, handed-vals}
@@ -55,10 +55,10 @@ use Rattle.lagumtay.proofs.Walks.Loads.{loads-shr}
 use Rattle.lagumtay.proofs.Walks.Apart.{tokens, apart, together, as-long}
 use Rattle.lagumtay.proofs.Walks.Facts.{calls-plain}
 use Rattle.lagumtay.proofs.Walks.Ending.{Numbers, numbers, typed-ending, typed-number}
-use Rattle.page.proofs.cancel as g
-use Rattle.page.proofs.cancel.Symbol as cancel-def
-use Rattle.page.proofs.cancel.Symbol.{name as #page·cancel}
-use Rattle.page.proofs.cancel.Met as cancel-thm
+use Rattle.hall.proofs.cancel as g
+use Rattle.hall.proofs.cancel.Symbol as cancel-def
+use Rattle.hall.proofs.cancel.Symbol.{name as #hall·cancel}
+use Rattle.hall.proofs.cancel.Met as cancel-thm
 use Rattle.protocol.proofs.ending_number.Symbol as number-def
 use Rattle.protocol.proofs.ending_number.Symbol.{name as #protocol·ending-number}
 use Rattle.protocol.proofs.ending_number.Met as number-thm
@@ -79,7 +79,7 @@ stayed =
 abbrev Known : {M : Type 1} (𝓤 : URA M) (H : Heap 𝓤) (A : Atoms 𝓤) (mem : Memory → SProp 𝓤) (run : Routine → Fun 𝓤)
     → Calls 𝓤 H → Type 1
 Known 𝓤 H A mem run C =
-    Triple 𝓤 (C #page·cancel) (tripleOf 𝓤 H A g.signature (g.spec 𝓤 H A mem run))
+    Triple 𝓤 (C #hall·cancel) (tripleOf 𝓤 H A g.signature (g.spec 𝓤 H A mem run))
     × Triple 𝓤 (C #protocol·ending-number) (Numbers 𝓤 H A mem run)
 
 module _ {M : Type 1} (𝓤 : URA M) (H : Heap 𝓤) (A : Atoms 𝓤) (W : Given 𝓤 H A) (mem : Memory → SProp 𝓤)
@@ -213,6 +213,6 @@ lagumtay-cancel-spec 𝓤 H 𝓜 𝓖 𝓡 =
     (tables 𝓤 H 𝓜 𝓡 code.env .C) (tables 𝓤 H 𝓜 𝓡 code.env .Λ) #lagumtay·lagumtay-cancel code.function
     (code.unfolded 𝓤 H 𝓜 𝓡)
     (meets 𝓤 H (𝓖 .A) (givenOf 𝓤 H 𝓜 𝓖) (𝓜 .mem) (𝓡 .run) (tablesOf 𝓤 H 𝓜 (tables 𝓤 H 𝓜 𝓡 code.env))
-    (cited 𝓤 H _ 𝓜 𝓡 code.env #page·cancel cancel-def.routine code.calls-page·cancel (cancel-thm.met 𝓤 H 𝓜 𝓖 𝓡) &
+    (cited 𝓤 H _ 𝓜 𝓡 code.env #hall·cancel cancel-def.routine code.calls-hall·cancel (cancel-thm.met 𝓤 H 𝓜 𝓖 𝓡) &
     cited 𝓤 H _ 𝓜 𝓡 code.env #protocol·ending-number number-def.routine code.calls-protocol·ending-number
     (number-thm.met 𝓤 H 𝓜 𝓖 𝓡)))

@@ -54,9 +54,9 @@ use Rattle.fresh.specs.declared.Opened.{Opened}
 use Rattle.fresh.proofs.Opened as TO
 use Rattle.fresh.proofs.Opened.Laws as TO′
 use Rattle.fresh.specs.Opening.{openedLent, openLent}
-use Rattle.page.proofs.Walks.Rules.Flat.{_&_}
-use Rattle.page.proofs.Walks.Rules.Locals.{Slot, has, spread, wide, enters, leaves, arg}
-use Rattle.page.proofs.Walks.Rules.Again.{lends-on}
+use Rattle.states.proofs.Walks.Flat.{_&_}
+use Rattle.states.proofs.Walks.Locals.{Slot, has, spread, wide, enters, leaves, arg}
+use Rattle.states.proofs.Walks.Again.{lends-on}
 use Rattle.lagumtay.proofs.Answers.Opens.{opened-left}
 use Rattle.lagumtay.proofs.Walks.Lent.{the, in-order, format, writer, form, memory, vals, params, held}
 use Rattle.lagumtay.proofs.Walks.Lent.{loaded, all-lent-on, handed, handed-vals, last-readers, last-page}
@@ -66,10 +66,10 @@ use Rattle.lagumtay.proofs.Walks.Stores.{Mut, stores-mut}
 use Rattle.lagumtay.proofs.Walks.Apart.{tokens, apart, together, as-long}
 use Rattle.lagumtay.proofs.Walks.Facts.{calls-plain}
 use Rattle.lagumtay.proofs.Walks.Ending.{Numbers, numbers, typed-ending, typed-number}
-use Rattle.page.proofs.open as g
-use Rattle.page.proofs.open.Symbol as open-def
-use Rattle.page.proofs.open.Symbol.{name as #page·open}
-use Rattle.page.proofs.open.Met as open-thm
+use Rattle.hall.proofs.open as g
+use Rattle.hall.proofs.open.Symbol as open-def
+use Rattle.hall.proofs.open.Symbol.{name as #hall·open}
+use Rattle.hall.proofs.open.Met as open-thm
 use Rattle.protocol.proofs.ending_number.Symbol as number-def
 use Rattle.protocol.proofs.ending_number.Symbol.{name as #protocol·ending-number}
 use Rattle.protocol.proofs.ending_number.Met as number-thm
@@ -91,7 +91,7 @@ stayed =
 abbrev Known : {M : Type 1} (𝓤 : URA M) (H : Heap 𝓤) (A : Atoms 𝓤) (mem : Memory → SProp 𝓤) (run : Routine → Fun 𝓤)
     → Calls 𝓤 H → Type 1
 Known 𝓤 H A mem run C =
-    Triple 𝓤 (C #page·open) (tripleOf 𝓤 H A g.signature (g.spec 𝓤 H A mem run))
+    Triple 𝓤 (C #hall·open) (tripleOf 𝓤 H A g.signature (g.spec 𝓤 H A mem run))
     × Triple 𝓤 (C #protocol·ending-number) (Numbers 𝓤 H A mem run)
 
 module _ {M : Type 1} (𝓤 : URA M) (H : Heap 𝓤) (A : Atoms 𝓤) (W : Given 𝓤 H A) (mem : Memory → SProp 𝓤)
@@ -243,6 +243,6 @@ lagumtay-open-spec 𝓤 H 𝓜 𝓖 𝓡 =
     (tables 𝓤 H 𝓜 𝓡 code.env .C) (tables 𝓤 H 𝓜 𝓡 code.env .Λ) #lagumtay·lagumtay-open code.function
     (code.unfolded 𝓤 H 𝓜 𝓡)
     (meets 𝓤 H (𝓖 .A) (givenOf 𝓤 H 𝓜 𝓖) (𝓜 .mem) (𝓡 .run) (tablesOf 𝓤 H 𝓜 (tables 𝓤 H 𝓜 𝓡 code.env))
-    (cited 𝓤 H _ 𝓜 𝓡 code.env #page·open open-def.routine code.calls-page·open (open-thm.met 𝓤 H 𝓜 𝓖 𝓡) &
+    (cited 𝓤 H _ 𝓜 𝓡 code.env #hall·open open-def.routine code.calls-hall·open (open-thm.met 𝓤 H 𝓜 𝓖 𝓡) &
     cited 𝓤 H _ 𝓜 𝓡 code.env #protocol·ending-number number-def.routine code.calls-protocol·ending-number
     (number-thm.met 𝓤 H 𝓜 𝓖 𝓡)))

@@ -38,9 +38,9 @@ use Rattle.protocol.specs.declared.Ending.{Ending}
 use Rattle.protocol.specs.declared.Reader.{Reader}
 use Rattle.protocol.proofs.Reader as TR
 use Rattle.packed.specs.States.{unpackedLent, unpackAll}
-use Rattle.page.proofs.Walks.Rules.Flat.{_&_}
-use Rattle.page.proofs.Walks.Rules.Locals.{Slot, has, spread, wide, enters, leaves, arg}
-use Rattle.page.proofs.Walks.Rules.Again.{lends-on}
+use Rattle.states.proofs.Walks.Flat.{_&_}
+use Rattle.states.proofs.Walks.Locals.{Slot, has, spread, wide, enters, leaves, arg}
+use Rattle.states.proofs.Walks.Again.{lends-on}
 use Rattle.lagumtay.proofs.Answers.Packs.{unpacked}
 use Rattle.lagumtay.proofs.Walks.Lent.{the, lent-on}
 use Rattle.lagumtay.proofs.Walks.Apart.{tokens, apart, together, as-long}

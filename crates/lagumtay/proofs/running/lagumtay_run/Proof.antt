@@ -48,10 +48,10 @@ use Rattle.page.specs.declared.Ran.{Ran}
 use Rattle.page.proofs.Ran as TR
 use Rattle.page.proofs.Ran.Laws as TR′
 use Rattle.page.specs.Calls.{ranLent, runLent, Carries}
-use Rattle.page.proofs.Walks.Rules.Both.{says-both}
-use Rattle.page.proofs.Walks.Rules.Flat.{_&_}
-use Rattle.page.proofs.Walks.Rules.Locals.{Slot, has, spread, wide, enters, leaves, arg}
-use Rattle.page.proofs.Walks.Rules.Again.{lends-on}
+use Rattle.states.proofs.Walks.Both.{says-both}
+use Rattle.states.proofs.Walks.Flat.{_&_}
+use Rattle.states.proofs.Walks.Locals.{Slot, has, spread, wide, enters, leaves, arg}
+use Rattle.states.proofs.Walks.Again.{lends-on}
 use Rattle.page.proofs.run as g
 use Rattle.page.proofs.run.Symbol as run-def
 use Rattle.page.proofs.run.Symbol.{name as #page·run}

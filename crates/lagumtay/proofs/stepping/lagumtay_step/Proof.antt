@@ -53,14 +53,14 @@ use Rattle.page.specs.declared.Stepped.{Stepped}
 use Rattle.page.proofs.Stepped as TS
 use Rattle.page.proofs.Stepped.Laws as TS′
 use Rattle.page.specs.Calls.{steppedLent, stepLent, CarriesStep}
-use Rattle.page.proofs.Walks.Rules.Both.{says-both}
-use Rattle.page.proofs.Walks.Rules.Flat.{_&_}
-use Rattle.page.proofs.Walks.Rules.Locals.{Slot, has, spread, wide, enters, leaves, arg}
-use Rattle.page.proofs.Walks.Rules.Again.{lends-on}
-use Rattle.page.proofs.step as g
-use Rattle.page.proofs.step.Symbol as step-def
-use Rattle.page.proofs.step.Symbol.{name as #page·step}
-use Rattle.page.proofs.step.Met as step-thm
+use Rattle.states.proofs.Walks.Both.{says-both}
+use Rattle.states.proofs.Walks.Flat.{_&_}
+use Rattle.states.proofs.Walks.Locals.{Slot, has, spread, wide, enters, leaves, arg}
+use Rattle.states.proofs.Walks.Again.{lends-on}
+use Rattle.hall.proofs.step as g
+use Rattle.hall.proofs.step.Symbol as step-def
+use Rattle.hall.proofs.step.Symbol.{name as #hall·step}
+use Rattle.hall.proofs.step.Met as step-thm
 use Rattle.lagumtay.specs.Step.{commandOf, endedOf}
 use Rattle.lagumtay.specs.declared.stepping.Order.{Order}
 use Rattle.lagumtay.specs.declared.stepping.Entry.{Entry}
@@ -107,7 +107,7 @@ abbrev Known : {M : Type 1} (𝓤 : URA M) (H : Heap 𝓤) (A : Atoms 𝓤) (mem
     → Calls 𝓤 H → Type 1
 Known 𝓤 H A mem run C =
     Triple 𝓤 (C #lagumtay·command-of) (tripleOf 𝓤 H A c.signature (c.spec 𝓤 H A mem run))
-    × (Triple 𝓤 (C #page·step) (tripleOf 𝓤 H A g.signature (g.spec 𝓤 H A mem run))
+    × (Triple 𝓤 (C #hall·step) (tripleOf 𝓤 H A g.signature (g.spec 𝓤 H A mem run))
     × Triple 𝓤 (C #lagumtay·end) (tripleOf 𝓤 H A h.signature (h.spec 𝓤 H A mem run)))
 
 module _ {M : Type 1} (𝓤 : URA M) (H : Heap 𝓤) (A : Atoms 𝓤) (W : Given 𝓤 H A) (mem : Memory → SProp 𝓤)
@@ -299,6 +299,6 @@ lagumtay-step-spec 𝓤 H 𝓜 𝓖 𝓡 =
     (meets 𝓤 H (𝓖 .A) (givenOf 𝓤 H 𝓜 𝓖) (𝓜 .mem) (𝓡 .run) (tablesOf 𝓤 H 𝓜 (tables 𝓤 H 𝓜 𝓡 code.env))
     (cited 𝓤 H _ 𝓜 𝓡 code.env #lagumtay·command-of command-def.routine code.calls-lagumtay·stepping·command-of
     (command-thm.met 𝓤 H 𝓜 𝓖 𝓡) &
-    cited 𝓤 H _ 𝓜 𝓡 code.env #page·step step-def.routine code.calls-page·step (step-thm.met 𝓤 H 𝓜 𝓖 𝓡) &
+    cited 𝓤 H _ 𝓜 𝓡 code.env #hall·step step-def.routine code.calls-hall·step (step-thm.met 𝓤 H 𝓜 𝓖 𝓡) &
     cited 𝓤 H _ 𝓜 𝓡 code.env #lagumtay·end end-def.routine code.calls-lagumtay·stepping·end
     (end-thm.met 𝓤 H 𝓜 𝓖 𝓡)))

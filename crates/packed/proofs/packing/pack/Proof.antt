@@ -58,18 +58,18 @@ use Rattle.codec.proofs.pack.Met as g-thm
 use Rattle.page.specs.Carry.{idleReader}
 use Rattle.packed.proofs.Packings.Packs.{Whole, packTo, none-packed, packs-on, packTo-size, packs-all, one-more}
 use Rattle.packed.proofs.Packings.Packs.{states, ended, states-fit, states-most}
-use Rattle.page.proofs.Walks.Rules.After.{after}
-use Rattle.page.proofs.Walks.Rules.Flat.{_&_}
-use Rattle.page.proofs.Walks.Rules.Upto as count
-use Rattle.page.proofs.Walks.Rules.Points.{points}
-use Rattle.page.proofs.Walks.Rules.Again.{lends-on}
-use Rattle.page.proofs.Walks.Rules.Made.{vals, whole-of}
-use Rattle.page.proofs.Walks.Rules.Locals.{Slot, free, has, spread, locals, the, wide, enters, leaves, arg}
-use Rattle.page.proofs.Walks.Rules.Call.{answers}
-use Rattle.page.proofs.Walks.Rules.Asks.{made, lent, asked, told, asks-plain, lends}
-use Rattle.page.proofs.Walks.Rules.Said.{said, all-fit, all-go, Last}
-use Rattle.page.proofs.Walks.Rules.Tokens.{binds, unbinds}
-use Rattle.page.proofs.Walks.Rules.Whole.{Lie, Shut, anew, opens, shuts, relends, comes}
+use Rattle.states.proofs.Walks.After.{after}
+use Rattle.states.proofs.Walks.Flat.{_&_}
+use Rattle.states.proofs.Walks.Upto as count
+use Rattle.states.proofs.Walks.Points.{points}
+use Rattle.states.proofs.Walks.Again.{lends-on}
+use Rattle.states.proofs.Walks.Made.{vals, whole-of}
+use Rattle.states.proofs.Walks.Locals.{Slot, free, has, spread, locals, the, wide, enters, leaves, arg}
+use Rattle.states.proofs.Walks.Call.{answers}
+use Rattle.states.proofs.Walks.Asks.{made, lent, asked, told, asks-plain, lends}
+use Rattle.states.proofs.Walks.Said.{said, all-fit, all-go, Last}
+use Rattle.states.proofs.Walks.Tokens.{binds, unbinds}
+use Rattle.states.proofs.Walks.Whole.{Lie, Shut, anew, opens, shuts, relends, comes}
 use Rattle.packed.proofs.packing.states as h
 use Rattle.packed.proofs.packing.states.Symbol as h-def
 use Rattle.packed.proofs.packing.states.Symbol.{name as #states}

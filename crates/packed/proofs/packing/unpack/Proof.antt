@@ -56,18 +56,18 @@ use Rattle.codec.proofs.unpack.Met as g-thm
 use Rattle.page.specs.Carry.{idleReader}
 use Rattle.packed.proofs.Packings.Packs.{unpackTo, none-unpacked, unpackTo-length, unpacks-on, unpacks-all}
 use Rattle.packed.proofs.Packings.Packs.{states, ended, states-fit, states-most}
-use Rattle.page.proofs.Walks.Rules.After.{after}
-use Rattle.page.proofs.Walks.Rules.Flat.{_&_}
-use Rattle.page.proofs.Walks.Rules.Upto as count
-use Rattle.page.proofs.Walks.Rules.Points.{points}
-use Rattle.page.proofs.Walks.Rules.Made.{vals}
-use Rattle.page.proofs.Walks.Rules.Locals.{Slot, free, has, spread, locals, the, wide, enters, leaves, arg}
-use Rattle.page.proofs.Walks.Rules.Call.{answers}
-use Rattle.page.proofs.Walks.Rules.Asks.{made, lent, asked, told, asks, asks-plain}
-use Rattle.page.proofs.Walks.Rules.Said.{said, all-fit, all-go, Last}
-use Rattle.page.proofs.Walks.Rules.Shared.{Shr, doubles}
-use Rattle.page.proofs.Walks.Rules.Tokens.{binds, unbinds}
-use Rattle.page.proofs.Walks.Rules.Whole.{Lie, Shut, opens, shuts}
+use Rattle.states.proofs.Walks.After.{after}
+use Rattle.states.proofs.Walks.Flat.{_&_}
+use Rattle.states.proofs.Walks.Upto as count
+use Rattle.states.proofs.Walks.Points.{points}
+use Rattle.states.proofs.Walks.Made.{vals}
+use Rattle.states.proofs.Walks.Locals.{Slot, free, has, spread, locals, the, wide, enters, leaves, arg}
+use Rattle.states.proofs.Walks.Call.{answers}
+use Rattle.states.proofs.Walks.Asks.{made, lent, asked, told, asks, asks-plain}
+use Rattle.states.proofs.Walks.Said.{said, all-fit, all-go, Last}
+use Rattle.states.proofs.Walks.Shared.{Shr, doubles}
+use Rattle.states.proofs.Walks.Tokens.{binds, unbinds}
+use Rattle.states.proofs.Walks.Whole.{Lie, Shut, opens, shuts}
 use Rattle.packed.proofs.packing.states as h
 use Rattle.packed.proofs.packing.states.Symbol as h-def
 use Rattle.packed.proofs.packing.states.Symbol.{name as #states}

@@ -64,16 +64,16 @@ use Rattle.page.proofs.Ran.Laws as TR′
 use Rattle.packed.proofs.Packings.Packs.{unpacked-length}
 use Rattle.packed.proofs.Kept.States.{states-most, unpacks}
 use Rattle.packed.proofs.Kept.Runs.{run-kept}
-use Rattle.page.proofs.Walks.Rules.Flat.{_&_}
-use Rattle.page.proofs.Walks.Rules.Kept.{Own}
-use Rattle.page.proofs.Walks.Rules.Again.{lends-on, borrows}
-use Rattle.page.proofs.Walks.Rules.Whole.{Lie, anew, relends, comes}
-use Rattle.page.proofs.Walks.Rules.Locals.{Slot, free, has, out, spread, locals, the, wide, enters, leaves, arg}
-use Rattle.page.proofs.Walks.Rules.Call.{answers}
-use Rattle.page.proofs.Walks.Rules.Asks.{made, lent, asked, told, first-told, asks-plain, lends}
-use Rattle.page.proofs.Walks.Rules.Said.{said, all-fit, all-go}
-use Rattle.page.proofs.Walks.Rules.Shared.{lends-shr, shr-back, reshares, reshared}
-use Rattle.page.proofs.Walks.Rules.Tokens.{binds, unbinds}
+use Rattle.states.proofs.Walks.Flat.{_&_}
+use Rattle.states.proofs.Walks.Kept.{Own}
+use Rattle.states.proofs.Walks.Again.{lends-on, borrows}
+use Rattle.states.proofs.Walks.Whole.{Lie, anew, relends, comes}
+use Rattle.states.proofs.Walks.Locals.{Slot, free, has, out, spread, locals, the, wide, enters, leaves, arg}
+use Rattle.states.proofs.Walks.Call.{answers}
+use Rattle.states.proofs.Walks.Asks.{made, lent, asked, told, first-told, asks-plain, lends}
+use Rattle.states.proofs.Walks.Said.{said, all-fit, all-go}
+use Rattle.states.proofs.Walks.Shared.{lends-shr, shr-back, reshares, reshared}
+use Rattle.states.proofs.Walks.Tokens.{binds, unbinds}
 use Rattle.packed.proofs.Walks.Copies.{copies, lays-row}
 use Rattle.packed.proofs.Walks.Prefix.{after, cuts, joins}
 use Rattle.packed.proofs.keeping.states_of as h

@@ -7,7 +7,7 @@ use lib.ListN.{replicate}
 use Rattle.protocol.specs.Form.{Form, formOf}
 use Rattle.packed.specs.Kept.{Kept, kept, runKept}
 use Rattle.packed.proofs.Kept.Steps.{step-kept}
-use Rattle.page.proofs.Walks.Rules.Commands.{command-range}
+use Rattle.page.proofs.Walks.Commands.{command-range}
 use Rattle.packed.proofs.stepping.step.Statement.{statement}
 use Rattle.packed.proofs.stepping.step.Tie as tie
 

@@ -36,9 +36,9 @@ use Rattle.page.specs.declared.turning.ReadTurn.{ReadTurn}
 use Rattle.page.specs.Loop.{readsOnIn, oneTurnBy, readTurn, TurnReady}
 use Rattle.page.proofs.turning.ReadTurn as T
 use Rattle.page.proofs.turning.read_turn as g
-use Rattle.page.proofs.Walks.Rules.Flat.{_&_}
-use Rattle.page.proofs.Walks.Rules.Values.{answer, answered}
-use Rattle.page.proofs.Walks.Rules.Digits.{D}
+use Rattle.states.proofs.Walks.Flat.{_&_}
+use Rattle.states.proofs.Walks.Values.{answer, answered}
+use Rattle.states.proofs.Walks.Digits.{D}
 use Rattle.page.proofs.Walks.Calls.TurnRest.{Lent, Lasts, spelt, form, page, buffers, log, asked, from, Rest, AsLong}
 use Rattle.page.proofs.Walks.Calls.TurnRest.{Last, rest-ends, Tokens}
 

@@ -45,28 +45,23 @@ returns c =
     ink-unwritten (s .args .bases .now) (s .args .c .0) (good s) (length (s .args .bases .now)) refl (w .write .ensures)
     (c .enum-told2 .given .1)
 
-slice-aggregate-joined : tie.Need-slice-aggregate-joined
-slice-aggregate-joined c =
+slice-aggregate-number : tie.Need-slice-aggregate-number
+slice-aggregate-number c =
     let t = c .before in
     let w = t .before .before .before in
     let s = w .before .before .before in
     sym (ink-long (s .args .bases .now) (s .args .c .0) (good s) (length (s .args .bases .now)) refl (w .write .ensures)
     (t .enum-told .given .1))
 
-joined-requires : tie.Need-joined-requires
-joined-requires c κs =
-    let t = c .before in
-    let w = t .before .before .before in
-    let s = w .before .before .before in
-    ink-long (s .args .bases .now) (s .args .c .0) (good s) (length (s .args .bases .now)) refl (w .write .ensures)
-    (t .enum-told .given .1)
+number-requires : tie.Need-number-requires
+number-requires c κs = search needs
 
 returns-2 : tie.Need-returns-2
 returns-2 c =
     let t = c .before .before in
     let w = t .before .before .before in
     let s = w .before .before .before in
-    ap Inked.Is (c .joined .ensures)
+    ap Inked.Is (c .number .ensures)
     ∙ ink-written (s .args .bases .now) (s .args .c .0) (good s) (length (s .args .bases .now)) refl (w .write .ensures)
     (t .enum-told .given .1)
 
@@ -80,6 +75,6 @@ of-count-spec =
     enum-told
     enum-told-2
     returns
-    slice-aggregate-joined
-    joined-requires
+    slice-aggregate-number
+    number-requires
     returns-2)

@@ -62,28 +62,23 @@ returns c =
     ink-unwritten (versionBases (form s)) (s .args .v .0) (good s) (s .args .format .q) (places s) (w .write .ensures ∙ writes s)
     (c .enum-told2 .given .1)
 
-slice-aggregate-joined : tie.Need-slice-aggregate-joined
-slice-aggregate-joined c =
+slice-aggregate-number : tie.Need-slice-aggregate-number
+slice-aggregate-number c =
     let t = c .before in
     let w = t .before .before .before in
     let s = w .before .before .before in
     sym (ink-long (versionBases (form s)) (s .args .v .0) (good s) (s .args .format .q) (places s)
     (w .write .ensures ∙ writes s) (t .enum-told .given .1))
 
-joined-requires : tie.Need-joined-requires
-joined-requires c κs =
-    let t = c .before in
-    let w = t .before .before .before in
-    let s = w .before .before .before in
-    ink-long (versionBases (form s)) (s .args .v .0) (good s) (s .args .format .q) (places s)
-    (w .write .ensures ∙ writes s) (t .enum-told .given .1)
+number-requires : tie.Need-number-requires
+number-requires c κs = search needs
 
 returns-2 : tie.Need-returns-2
 returns-2 c =
     let t = c .before .before in
     let w = t .before .before .before in
     let s = w .before .before .before in
-    ap Inked.Is (c .joined .ensures)
+    ap Inked.Is (c .number .ensures)
     ∙ ink-written (versionBases (form s)) (s .args .v .0) (good s) (s .args .format .q) (places s) (w .write .ensures ∙ writes s)
     (t .enum-told .given .1)
 
@@ -97,6 +92,6 @@ of-version-spec =
     enum-told
     enum-told-2
     returns
-    slice-aggregate-joined
-    joined-requires
+    slice-aggregate-number
+    number-requires
     returns-2)

@@ -10,9 +10,7 @@ use Rattle.page.proofs.Readers.Commands.{
   reads-record,
   reads-cancel,
   reads-step,
-  not-count,
-  not-record,
-  not-step,
+  not-reader,
 }
 use borrow.Author.Needs.{needs}
 use Rattle.page.proofs.reading.read_at.Statement.{statement}
@@ -75,15 +73,6 @@ enum-told-2 c = search needs
 drop-read-requires : tie.Need-drop-read-requires
 drop-read-requires c κs = search needs
 
-enum-told-3 : tie.Need-enum-told-3
-enum-told-3 c = search needs
-
-enum-told-4 : tie.Need-enum-told-4
-enum-told-4 c = search needs
-
-enum-told-5 : tie.Need-enum-told-5
-enum-told-5 c = search needs
-
 returns : tie.Need-returns
 returns c =
     let e = c .before .before .before in
@@ -111,13 +100,7 @@ returns-4 c =
     (refl, reads-cancel _ _ _ _ _ _ _ _ (e .enum-told2 .given .1) _ _ (c .drop-read .ensures))
 
 returns-5 : tie.Need-returns-5
-returns-5 c = (refl, not-count _ _ _ _ _ _ _ _ (c .enum-told3 .given .1))
-
-returns-6 : tie.Need-returns-6
-returns-6 c = (refl, not-record _ _ _ _ _ _ _ _ (c .enum-told4 .given .1))
-
-returns-7 : tie.Need-returns-7
-returns-7 c = (refl, not-step _ _ _ _ _ _ _ (c .enum-told5 .given .1))
+returns-5 c = (refl, not-reader _ _ _ _ _ _ _ (c .match .keys5))
 
 pub read-at-spec : {M : Type 1} → statement M
 read-at-spec =
@@ -138,14 +121,9 @@ read-at-spec =
     take-requires
     enum-told-2
     drop-read-requires
-    enum-told-3
-    enum-told-4
-    enum-told-5
     returns
     returns-2
     same-length
     returns-3
     returns-4
-    returns-5
-    returns-6
-    returns-7)
+    returns-5)

@@ -58,20 +58,20 @@ use Rattle.page.specs.Reads.{ReadReady}
 use Rattle.page.specs.Carry.{idleReader, readerAt, within}
 use Rattle.page.specs.Loop.{NoAdvance, Advanced}
 use Rattle.page.proofs.Readers.Ways.{held-steps}
-use Rattle.page.proofs.Walks.Rules.Flat.{_&_}
-use Rattle.page.proofs.Walks.Rules.Tests.{holds-true, holds-false, holds-not-not}
-use Rattle.page.proofs.Walks.Rules.Digits.{D, spelt as spelt-digits, same, lends-digits, digits-back}
-use Rattle.page.proofs.Walks.Rules.Digits.{lent as lent-digits}
-use Rattle.page.proofs.Walks.Rules.Locals.{free, has, spread, locals, the, wide, enters, leaves, leaves-within, arg}
-use Rattle.page.proofs.Walks.Rules.Again.{lends-on}
-use Rattle.page.proofs.Walks.Rules.Points.{points}
-use Rattle.page.proofs.Walks.Rules.Call.{answers}
-use Rattle.page.proofs.Walks.Rules.Asks.{made, lent, asked-if, told, asks, lends}
-use Rattle.page.proofs.Walks.Rules.Kept.{Own}
-use Rattle.page.proofs.Walks.Rules.Said.{said, all-fit, all-go, Last, unchanged}
-use Rattle.page.proofs.Walks.Rules.Shared.{Shr, doubles}
-use Rattle.page.proofs.Walks.Rules.Tokens.{binds, unbinds}
-use Rattle.page.proofs.Walks.Rules.Whole.{Lie, Shut, opens, shuts}
+use Rattle.states.proofs.Walks.Flat.{_&_}
+use Rattle.states.proofs.Walks.Tests.{holds-true, holds-false, holds-not-not}
+use Rattle.states.proofs.Walks.Digits.{D, spelt as spelt-digits, same, lends-digits, digits-back}
+use Rattle.states.proofs.Walks.Digits.{lent as lent-digits}
+use Rattle.states.proofs.Walks.Locals.{free, has, spread, locals, the, wide, enters, leaves, leaves-within, arg}
+use Rattle.states.proofs.Walks.Again.{lends-on}
+use Rattle.states.proofs.Walks.Points.{points}
+use Rattle.states.proofs.Walks.Call.{answers}
+use Rattle.states.proofs.Walks.Asks.{made, lent, asked-if, told, asks, lends}
+use Rattle.states.proofs.Walks.Kept.{Own}
+use Rattle.states.proofs.Walks.Said.{said, all-fit, all-go, Last, unchanged}
+use Rattle.states.proofs.Walks.Shared.{Shr, doubles}
+use Rattle.states.proofs.Walks.Tokens.{binds, unbinds}
+use Rattle.states.proofs.Walks.Whole.{Lie, Shut, opens, shuts}
 use Rattle.page.proofs.reading.advances as g
 use Rattle.page.proofs.reading.advances.Symbol as g-def
 use Rattle.page.proofs.reading.advances.Symbol.{name as #advances}

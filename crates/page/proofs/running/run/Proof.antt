@@ -55,7 +55,8 @@ use Rattle.protocol.proofs.Writer as TW
 use Rattle.protocol.proofs.Writer.Laws as TW′
 use Rattle.page.specs.declared.Ran.{Ran}
 use Rattle.page.specs.Carry.{lent as at-hand}
-use Rattle.page.specs.Start.{refusing, startFrom}
+use Rattle.checks.specs.Start.{refusing}
+use Rattle.states.specs.Start.{startFrom}
 use Rattle.page.specs.Calls.{ranLent, runLent, refusedRan}
 use Rattle.page.proofs.Ran as TR
 use Rattle.page.proofs.Ran.Laws as TR′
@@ -63,26 +64,26 @@ use Rattle.fresh.proofs.Openings.Endings.{is-finished}
 use Rattle.page.proofs.Calls.Starts.{start-is}
 use Rattle.page.proofs.Calls.Begun.{begins, run-refused}
 use Rattle.page.proofs.Calls.Carries.{carries}
-use Rattle.page.proofs.Walks.Rules.Both.{says-both}
-use Rattle.page.proofs.Walks.Rules.Flat.{_&_}
-use Rattle.page.proofs.Walks.Rules.Tests.{holds-true, holds-false}
-use Rattle.page.proofs.Walks.Rules.Again.{lends-on}
-use Rattle.page.proofs.Walks.Rules.Whole.{anew}
-use Rattle.page.proofs.Walks.Rules.Locals.{Slot, free, has, spread, locals, the, wide, enters, leaves, leaves-within}
-use Rattle.page.proofs.Walks.Rules.Locals.{arg}
-use Rattle.page.proofs.Walks.Rules.Call.{answers}
-use Rattle.page.proofs.Walks.Rules.Asks.{made, lent, Hows, supply, asked, asked-if, told, asks, asks-plain, lends}
-use Rattle.page.proofs.Walks.Rules.Said.{said, all-fit, all-go, unchanged}
-use Rattle.page.proofs.Walks.Rules.Shared.{doubles, reshares, reshared}
-use Rattle.page.proofs.Walks.Rules.Tokens.{binds, unbinds}
-use Rattle.page.proofs.starting.start as g
-use Rattle.page.proofs.starting.start.Symbol as g-def
-use Rattle.page.proofs.starting.start.Symbol.{name as #start}
-use Rattle.page.proofs.starting.start.Met as g-thm
-use Rattle.fresh.proofs.refuses as h
-use Rattle.fresh.proofs.refuses.Symbol as h-def
-use Rattle.fresh.proofs.refuses.Symbol.{name as #refuses}
-use Rattle.fresh.proofs.refuses.Met as h-thm
+use Rattle.states.proofs.Walks.Both.{says-both}
+use Rattle.states.proofs.Walks.Flat.{_&_}
+use Rattle.states.proofs.Walks.Tests.{holds-true, holds-false}
+use Rattle.states.proofs.Walks.Again.{lends-on}
+use Rattle.states.proofs.Walks.Whole.{anew}
+use Rattle.states.proofs.Walks.Locals.{Slot, free, has, spread, locals, the, wide, enters, leaves, leaves-within}
+use Rattle.states.proofs.Walks.Locals.{arg}
+use Rattle.states.proofs.Walks.Call.{answers}
+use Rattle.states.proofs.Walks.Asks.{made, lent, Hows, supply, asked, asked-if, told, asks, asks-plain, lends}
+use Rattle.states.proofs.Walks.Said.{said, all-fit, all-go, unchanged}
+use Rattle.states.proofs.Walks.Shared.{doubles, reshares, reshared}
+use Rattle.states.proofs.Walks.Tokens.{binds, unbinds}
+use Rattle.states.proofs.start as g
+use Rattle.states.proofs.start.Symbol as g-def
+use Rattle.states.proofs.start.Symbol.{name as #start}
+use Rattle.states.proofs.start.Met as g-thm
+use Rattle.checks.proofs.refuses as h
+use Rattle.checks.proofs.refuses.Symbol as h-def
+use Rattle.checks.proofs.refuses.Symbol.{name as #refuses}
+use Rattle.checks.proofs.refuses.Met as h-thm
 use Rattle.page.proofs.running.refused_run as j
 use Rattle.page.proofs.running.refused_run.Symbol as j-def
 use Rattle.page.proofs.running.refused_run.Symbol.{name as #refused-run}
@@ -386,9 +387,9 @@ run-spec 𝓤 H 𝓜 𝓖 𝓡 =
     (tables 𝓤 H 𝓜 𝓡 code.env .C) (tables 𝓤 H 𝓜 𝓡 code.env .Λ) #run code.function (code.unfolded 𝓤 H 𝓜 𝓡)
     (meets 𝓤 H (𝓖 .A) (givenOf 𝓤 H 𝓜 𝓖) (𝓜 .mem) (𝓡 .run) (tablesOf 𝓤 H 𝓜 (tables 𝓤 H 𝓜 𝓡 code.env))
     (cited 𝓤 H (Starts 𝓤 H (𝓖 .A) (givenOf 𝓤 H 𝓜 𝓖) (𝓜 .mem) (𝓡 .run)) 𝓜 𝓡 code.env #start g-def.routine
-    code.calls-page·starting·start (g-thm.met 𝓤 H 𝓜 𝓖 𝓡))
+    code.calls-states·start (g-thm.met 𝓤 H 𝓜 𝓖 𝓡))
     (cited 𝓤 H (Refuses 𝓤 H (𝓖 .A) (givenOf 𝓤 H 𝓜 𝓖) (𝓜 .mem) (𝓡 .run)) 𝓜 𝓡 code.env #refuses h-def.routine
-    code.calls-fresh·refuses (h-thm.met 𝓤 H 𝓜 𝓖 𝓡))
+    code.calls-checks·refuses (h-thm.met 𝓤 H 𝓜 𝓖 𝓡))
     (cited 𝓤 H (Tells 𝓤 H (𝓖 .A) (givenOf 𝓤 H 𝓜 𝓖) (𝓜 .mem) (𝓡 .run)) 𝓜 𝓡 code.env #refused-run j-def.routine
     code.calls-page·running·refused-run (j-thm.met 𝓤 H 𝓜 𝓖 𝓡))
     (cited 𝓤 H (Runs 𝓤 H (𝓖 .A) (givenOf 𝓤 H 𝓜 𝓖) (𝓜 .mem) (𝓡 .run)) 𝓜 𝓡 code.env #run-all k-def.routine

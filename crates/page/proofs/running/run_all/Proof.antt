@@ -90,16 +90,16 @@ use Rattle.page.proofs.Loop.Rounds.{turn-ready, going-read, pen-ready, 
 use Rattle.page.proofs.Loop.Steps.{step-inside, step-ready, going-step, was-moved, was-kept, then-ends}
 use Rattle.page.proofs.Loop.WriteSteps.{can-write, going-wrote}
 use Rattle.page.proofs.Loop.Ends.{going-ends}
-use Rattle.page.proofs.Walks.Rules.After.{after}
-use Rattle.page.proofs.Walks.Rules.Arms.{if-held, if-failed}
-use Rattle.page.proofs.Walks.Rules.Kept.{Own}
-use Rattle.page.proofs.Walks.Rules.Flat.{_&_}
-use Rattle.page.proofs.Walks.Rules.Tests.{holds-true, holds-false}
-use Rattle.page.proofs.Walks.Rules.Locals.{Slot, free, has, spread, locals, the, wide, enters, leaves, arg}
-use Rattle.page.proofs.Walks.Rules.Again.{lends-on}
-use Rattle.page.proofs.Walks.Rules.Call.{calls-with, calls-with-last, answers, answers-last}
-use Rattle.page.proofs.Walks.Rules.Asks.{made, lent as lent-as, asked as asked-of, asked-if, told, asks, lends}
-use Rattle.page.proofs.Walks.Rules.Whole.{anew}
+use Rattle.states.proofs.Walks.After.{after}
+use Rattle.states.proofs.Walks.Arms.{if-held, if-failed}
+use Rattle.states.proofs.Walks.Kept.{Own}
+use Rattle.states.proofs.Walks.Flat.{_&_}
+use Rattle.states.proofs.Walks.Tests.{holds-true, holds-false}
+use Rattle.states.proofs.Walks.Locals.{Slot, free, has, spread, locals, the, wide, enters, leaves, arg}
+use Rattle.states.proofs.Walks.Again.{lends-on}
+use Rattle.states.proofs.Walks.Call.{calls-with, calls-with-last, answers, answers-last}
+use Rattle.states.proofs.Walks.Asks.{made, lent as lent-as, asked as asked-of, asked-if, told, asks, lends}
+use Rattle.states.proofs.Walks.Whole.{anew}
 use Rattle.page.proofs.Walks.Calls.RunRest as rest
 use Rattle.page.proofs.Walks.Calls.RunRest.{Lent, Lasts, spelt, form, page, writer, buffers, records, commands, log}
 use Rattle.page.proofs.Walks.Calls.RunRest.{tail, fits, AsLong, Rest, Last, Had, rest-had, spells, tells, Tokens}

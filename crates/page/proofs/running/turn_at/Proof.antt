@@ -52,13 +52,13 @@ use Rattle.page.proofs.turning.ReadTurn as TT
 use Rattle.page.proofs.turning.ReadTurn.Laws as TT′
 use Rattle.page.specs.Carry.{idleReader, readerAt}
 use Rattle.page.specs.Loop.{inPlace}
-use Rattle.page.proofs.Walks.Rules.Kept.{obs-ends}
-use Rattle.page.proofs.Walks.Rules.Flat.{_&_}
-use Rattle.page.proofs.Walks.Rules.Digits.{D, spelt as spelt-digits, same, putting, lent, lends-digits, digits-back}
-use Rattle.page.proofs.Walks.Rules.Locals.{free, has, spread, locals, the, wide, enters, leaves, arg}
-use Rattle.page.proofs.Walks.Rules.Again.{lends-on}
-use Rattle.page.proofs.Walks.Rules.Points.{points}
-use Rattle.page.proofs.Walks.Rules.Call.{calls-with, answers}
+use Rattle.states.proofs.Walks.Kept.{obs-ends}
+use Rattle.states.proofs.Walks.Flat.{_&_}
+use Rattle.states.proofs.Walks.Digits.{D, spelt as spelt-digits, same, putting, lent, lends-digits, digits-back}
+use Rattle.states.proofs.Walks.Locals.{free, has, spread, locals, the, wide, enters, leaves, arg}
+use Rattle.states.proofs.Walks.Again.{lends-on}
+use Rattle.states.proofs.Walks.Points.{points}
+use Rattle.states.proofs.Walks.Call.{calls-with, answers}
 use Rattle.page.proofs.Walks.Calls.TurnRest as rest
 use Rattle.page.proofs.Walks.Calls.TurnRest.{Lent, spelt, tail, fits, Rest, Last, Had, rest-had, spells, tells, Tokens}
 use Rattle.page.proofs.Walks.Calls.ReadTurn.{Answer, Told, Reads, to-read, goes-read, read-gives}
