@@ -390,22 +390,22 @@ impl<'a> Machine<'a> {
     fn commands(mut self, commands: &[u8], log: &mut Log) -> (usize, usize, Ending) {
         let mut bytes = commands.iter();
         let mut done = 0;
-        loop {
-            let left = bytes.len();
-            let Some(&kind) = bytes.next() else {
-                return (done, left, Ok(()));
-            };
+        while let Some(&kind) = bytes.next() {
             // Almost all are steps: they are told apart first, by comparing.
-            let ending = match kind {
-                3 => self.writer_step(),
-                6 => bytes.next().ok_or(UnknownCommand).and_then(|&who| self.reader_step(who, log)),
-                _ => self.no_step(kind, bytes.as_slice()).map(|rest| bytes = rest.iter()),
+            let (read, ending) = match kind {
+                3 => (1, self.writer_step()),
+                6 => match bytes.next() {
+                    Some(&who) => (2, self.reader_step(who, log)),
+                    None => (1, Err(UnknownCommand)),
+                },
+                _ => (1, self.no_step(kind, bytes.as_slice()).map(|rest| bytes = rest.iter())),
             };
             if ending.is_err() {
-                return (done, left, ending);
+                return (done, read + bytes.len(), ending);
             }
             done += 1;
         }
+        (done, 0, Ok(()))
     }
 
     /// One command that is no bytes.
