@@ -1,5 +1,7 @@
 -- The steps that the proofs by hand share: locals, loans, calls, loops.
 pub mod Flat
+pub mod Start
+pub mod Handed
 pub mod Tests
 pub mod After
 pub mod Upto

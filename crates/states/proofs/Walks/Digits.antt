@@ -28,7 +28,6 @@ use denote.Ref.{RefT, MutRef, ptr-vals}
 use denote.Lend.{lends-ref, ref-back}
 use denote.Steps.{only, owned, facts}
 use denote.Struct.Laws as LL
-use Rattle.protocol.specs.declared.Stage.{Stage}
 use Rattle.protocol.specs.declared.Reader.{Reader}
 use Rattle.protocol.proofs.Stage as TS
 use Rattle.protocol.proofs.Stage.Laws as TS′

@@ -43,7 +43,7 @@ use denote.Triple.Spec.{Meets, tripleOf}
 use denote.Triple.Statement.{Contract, Triple}
 use denote.Triple.Clauses.{lasts}
 use denote.Triple.Table.{entered, cited}
-use denote.Triple.Walked.{says, needs, Stays, walkOf, Walks, ends-at, walked, walk-meets}
+use denote.Triple.Walked.{says, Stays, walkOf, Walks, ends-at, walk-meets}
 use Rattle.protocol.specs.Form.{Form, formOf}
 use Rattle.protocol.specs.declared.Command.the-variants.{ReaderStep}
 use Rattle.protocol.specs.declared.Reader.{Reader}
@@ -58,6 +58,7 @@ use Rattle.page.specs.Reads.{ReadReady}
 use Rattle.page.specs.Carry.{idleReader, readerAt, within}
 use Rattle.page.specs.Loop.{NoAdvance, Advanced}
 use Rattle.page.proofs.Readers.Ways.{held-steps}
+use Rattle.states.proofs.Walks.Start.{unit, walked-asking}
 use Rattle.states.proofs.Walks.Flat.{_&_}
 use Rattle.states.proofs.Walks.Tests.{holds-true, holds-false, holds-not-not}
 use Rattle.states.proofs.Walks.Digits.{D, spelt as spelt-digits, same, lends-digits, digits-back}
@@ -402,13 +403,13 @@ module _ {M : Type 1} (𝓤 : URA M) (H : Heap 𝓤) (A : Atoms 𝓤) (W : Given
       Triple 𝓤 (C #advance) Moves
       → Walks 𝓤 H A f.ended stays (WpFn 𝓤 H C Λ code.function) (f.clauses 𝓤 H A mem run)
   walks C Λ fm known-test known-move =
-      walked 𝓤 H A f.ended stays (f.clauses 𝓤 H A mem run) (WpFn 𝓤 H C Λ code.function)
+      walked-asking 𝓤 H A f.ended stays (f.clauses 𝓤 H A mem run) (WpFn 𝓤 H C Λ code.function)
       (λ κs. slice-vals & uint-vals w64 & LL.vals TF.the-type TF′.the-laws & slice-vals & slice-vals & slice-vals & tt)
       (λ κs. mut-slice-tells (named 0) (κs .0) R & uint-tells w64 & LL.tells TF.the-type TF′.the-laws &
       shr-slice-tells (named 1) (κs .1 .0) u16 & mut-slice-tells (named 2) (κs .1 .1 .0) u8 &
       mut-slice-tells (named 3) (κs .1 .1 .1 .0) u8 & tt)
-      (λ κs qs bounds a _ are. needs 𝓤 (Asked κs qs a) _ (λ asked.
-      walk κs qs a are C Λ fm known-test known-move asked))
+      (λ _. unit) (λ _ _. unit) (λ κs qs a. Asked κs qs a) (λ _ _ _ _. refl)
+      (λ κs qs a are asked. walk κs qs a are C Λ fm known-test known-move asked)
 
   meets : (𝓣 : Tables 𝓤 H) → Triple 𝓤 (𝓣 .C #advances) Tests → Triple 𝓤 (𝓣 .C #advance) Moves
       → Meets 𝓤 H A f.signature (WpFn 𝓤 H (𝓣 .C) (𝓣 .Λ) code.function) (f.spec 𝓤 H A mem run)

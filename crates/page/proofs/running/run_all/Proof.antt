@@ -44,7 +44,7 @@ use denote.Steps.{nothing, owned}
 use denote.Triple.Entry.{onEntry}
 use denote.Triple.Spec.{Meets, tripleOf}
 use denote.Triple.Table.{entered as enters-table, cited}
-use denote.Triple.Walked.{says, needs, goes-gave-slice, Walks, ends-at, walked, walk-meets}
+use denote.Triple.Walked.{says, goes-gave-slice, Walks, ends-at, walk-meets}
 use Rattle.codec.proofs.decode.Symbol as decode-def
 use Rattle.codec.proofs.decode.Symbol.{name as #decode}
 use Rattle.codec.proofs.decode.Met as decode-thm
@@ -57,6 +57,7 @@ use Rattle.page.proofs.pen.Pen as TP
 use Rattle.page.proofs.pen.Pen.Laws as TP′
 use Rattle.page.proofs.Loop.Going.{going-first}
 use Rattle.page.proofs.Loop.Ends.{going-ends}
+use Rattle.states.proofs.Walks.Start.{unit, walked-asking}
 use Rattle.states.proofs.Walks.Kept.{Own}
 use Rattle.states.proofs.Walks.Flat.{_&_}
 use Rattle.states.proofs.Walks.Tests.{holds-false}
@@ -240,10 +241,10 @@ module _ {M : Type 1} (𝓤 : URA M) (H : Heap 𝓤) (A : Atoms 𝓤) (W : Given
     (run : Routine → Fun 𝓤) (𝓣 : Tables 𝓤 H) (known : Known 𝓤 H A mem run 𝓣) where
   walks : Walks 𝓤 H A f.ended stayed (WpFn 𝓤 H (𝓣 .C) (𝓣 .Λ) code.function) (f.clauses 𝓤 H A mem run)
   walks =
-      walked 𝓤 H A f.ended stayed (f.clauses 𝓤 H A mem run) (WpFn 𝓤 H (𝓣 .C) (𝓣 .Λ) code.function)
+      walked-asking 𝓤 H A f.ended stayed (f.clauses 𝓤 H A mem run) (WpFn 𝓤 H (𝓣 .C) (𝓣 .Λ) code.function)
       (λ κs. slice-vals & spells κs) (λ κs. mut-slice-tells (named 0) (κs .0) R & tells κs)
-      (λ κs qs bounds a _ are. needs 𝓤 (Asks (F a) (S a) (L a)) _ (λ h.
-      let g : Called 𝓤 H A W mem run 𝓣 κs qs a = record { known = known; are = are; asked = h } in walk g))
+      (λ _. unit) (λ _ _. unit) (λ κs qs a. Asks (F a) (S a) (L a)) (λ _ _ _ _. refl)
+      (λ κs qs a are h. let g : Called 𝓤 H A W mem run 𝓣 κs qs a = record { known = known; are = are; asked = h } in walk g)
 
   run-all-meets : Meets 𝓤 H A f.signature (WpFn 𝓤 H (𝓣 .C) (𝓣 .Λ) code.function) (f.spec 𝓤 H A mem run)
   run-all-meets =

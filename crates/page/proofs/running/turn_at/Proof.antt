@@ -39,8 +39,8 @@ use denote.Triple.Entry.{Args, Vals, onEntry}
 use denote.Triple.Spec.{Meets, tripleOf}
 use denote.Triple.Statement.{Triple}
 use denote.Triple.Table.{entered, cited}
-use denote.Triple.Walked.{says, needs, Stays, stay-dropped, gave-slice, walkOf, goes-dropped, goes-gave-slice, Walks}
-use denote.Triple.Walked.{ends-at, walked, walk-meets}
+use denote.Triple.Walked.{says, Stays, stay-dropped, gave-slice, walkOf, goes-dropped, goes-gave-slice, Walks}
+use denote.Triple.Walked.{ends-at, walk-meets}
 use Rattle.protocol.specs.declared.Reader.{Reader}
 use Rattle.protocol.proofs.Reader as T
 use Rattle.protocol.proofs.Reader.Laws as T′
@@ -52,6 +52,7 @@ use Rattle.page.proofs.turning.ReadTurn as TT
 use Rattle.page.proofs.turning.ReadTurn.Laws as TT′
 use Rattle.page.specs.Carry.{idleReader, readerAt}
 use Rattle.page.specs.Loop.{inPlace}
+use Rattle.states.proofs.Walks.Start.{unit, walked-asking}
 use Rattle.states.proofs.Walks.Kept.{obs-ends}
 use Rattle.states.proofs.Walks.Flat.{_&_}
 use Rattle.states.proofs.Walks.Digits.{D, spelt as spelt-digits, same, putting, lent, lends-digits, digits-back}
@@ -302,11 +303,11 @@ module _ {M : Type 1} (𝓤 : URA M) (H : Heap 𝓤) (A : Atoms 𝓤) (W : Given
   walks : (C : Calls 𝓤 H) (Λ : Loops 𝓤 H) → FmC 𝓤 H (W .laws) C → Triple 𝓤 (C #read-turn) (Reads 𝓤 H A mem run)
       → Walks 𝓤 H A f.ended stayed (WpFn 𝓤 H C Λ code.function) (f.clauses 𝓤 H A mem run)
   walks C Λ fm known =
-      walked 𝓤 H A f.ended stayed (f.clauses 𝓤 H A mem run) (WpFn 𝓤 H C Λ code.function)
+      walked-asking 𝓤 H A f.ended stayed (f.clauses 𝓤 H A mem run) (WpFn 𝓤 H C Λ code.function)
       (λ κs. slice-vals & uint-vals w64 & spells κs)
       (λ κs. mut-slice-tells (named 0) (κs .0) R & uint-tells w64 & tells κs)
-      (λ κs qs bounds a _ are. needs 𝓤 (Asked (a .0) (a .1 .0) (a .1 .1)) _ (λ h.
-      walk 𝓤 H A W mem run κs qs a are C Λ fm known h))
+      (λ _. unit) (λ _ _. unit) (λ κs qs a. Asked (a .0) (a .1 .0) (a .1 .1)) (λ _ _ _ _. refl)
+      (λ κs qs a are h. walk 𝓤 H A W mem run κs qs a are C Λ fm known h)
 
 turn-at-meets : {M : Type 1} (𝓤 : URA M) (H : Heap 𝓤) (A : Atoms 𝓤) → Given 𝓤 H A → (mem : Memory → SProp 𝓤)
     (run : Routine → Fun 𝓤) (𝓣 : Tables 𝓤 H) → Triple 𝓤 (𝓣 .C #read-turn) (Reads 𝓤 H A mem run)

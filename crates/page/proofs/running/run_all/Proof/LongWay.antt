@@ -217,9 +217,12 @@ module _ {M : Type 1} {𝓤 : URA M} {H : Heap 𝓤} {A : Atoms 𝓤} {W : Given
       answers ! (is-turn (y .0) u it) $
       land ! (from ! (stop !)) (init ! 21 refl (LL.lawful TT.the-type TT′.the-laws 𝓤 H A W .typed (y .0)
       (turn-val (y .0) ∷ []) (as-turn (y .0) u it) .0)) $
-      assigns ! (of-opd ! (load ! (from ! (fld ! refl (stop !))) (look-in ! 21 (sub ! 0 refl (whole !)))))
+      -- the fields' types and places are written out: found by antt, they are terms of a hundred thousand steps
+      assigns ! (of-opd ! (load ! (from ! (fld ! {τ = TS′.mir} {d = 0} refl (stop !)))
+      (look-in ! 21 (sub ! 0 {τ = TS′.mir} {d = 0} refl (whole !)))))
       (from ! (stop !)) (store ! 15 refl (typed W (y .0 .standing) (is-standing y u it))) $
-      assigns-last ! (of-opd ! (load ! (from ! (fld ! refl (stop !))) (look-in ! 21 (sub ! 1 refl (whole !)))))
+      assigns-last ! (of-opd ! (load ! (from ! (fld ! {τ = TP′.mir} {d = 32} refl (stop !)))
+      (look-in ! 21 (sub ! 1 {τ = TP′.mir} {d = 32} refl (whole !)))))
       (from ! (stop !)) (store ! 16 refl (typed-pen W (y .0 .pen) (is-penned y u it))) $
       forget ! 19 refl $ forget ! 20 refl $ forget ! 21 refl $ forget ! 42 refl $ forget ! 43 refl $
       again ! (Nearer a) (At g l) i (write-to i on over y say (is-standing y u it) (is-penned y u it) lp)
