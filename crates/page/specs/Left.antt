@@ -15,7 +15,6 @@ use Rattle.protocol.specs.Outcome.{entry}
 use Rattle.protocol.specs.Memory.{stageAt, readerOf, storedReading}
 use Rattle.protocol.specs.Load.{loadReading}
 use Rattle.protocol.specs.declared.Outcome.{Outcome}
-use Rattle.protocol.specs.declared.Refusal.{Refusal}
 use Rattle.protocol.specs.declared.Outcome.the-variants.{Nothing, GaveUp}
 use Rattle.protocol.specs.declared.Refusal.the-variants.{Busy, NothingPending, NoSuch, LogFull}
 use Rattle.protocol.specs.declared.Reader.{Reader}
@@ -76,9 +75,6 @@ cancelled F x b =
 -- the reader as the step found it
 abbrev pub before : Stage → List ℕ → Reader
 before s digits = readerOf s (set digits 8 0)
-
-abbrev pub refusal : Refusal → Reader → List ℕ → Left
-refusal why x b = left (Refused why) x b
 
 -- the reader is idle
 abbrev pub finished : Form → (room : ℕ) → Outcome → Reader → List ℕ → Left

@@ -59,8 +59,10 @@ fn end_count(
             };
             finishing::finish(stage, digits, o, room)
         }
-        Ends::Crossed => finishing::back(stage, digits, Refusal::CopiesCrossed),
-        Ends::Refused(_) => finishing::back(stage, digits, Refusal::CopiesCrossed),
+        Ends::Crossed | Ends::Refused(_) => {
+            digits[8] = 0;
+            finishing::refused(Refusal::CopiesCrossed, stage)
+        }
     }
 }
 

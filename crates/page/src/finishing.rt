@@ -1,8 +1,9 @@
-// The end of a read, where its last digit is put at 8 already: a refusal puts it back.
+// What a command of a reader answers, and the end of a read: its last digit is put at 8 already, and a refusal takes it back.
 ghost use mathlib.Core.Path.{_≡_};
 ghost use lib.ListN.{length};
 ghost use Rattle.protocol.specs.Form.{Form};
-ghost use Rattle.page.specs.Left.{Leaves, before, refusal, finished};
+ghost use Rattle.protocol.specs.Memory.{stageAt};
+ghost use Rattle.page.specs.Left.{Leaves, before, finished};
 use crate::Answer;
 use protocol::Outcome;
 use protocol::Refusal;
@@ -26,15 +27,42 @@ pub(crate) fn idle() -> Stage
     }
 }
 
-// The step is refused.
-pub(crate) fn back(stage: Stage, digits: &mut [u8], why: Refusal) -> Taken
-    requires { ⌜ length (now digits) ≡ 16 ⌝ }
-    ensures { λ r. ⌜ Leaves r (now (digits .exit)) (refusal why (before stage (now (digits .entry)))) ⌝ }
+// Nothing to tell: a read, or none, that has taken no step. Its stage is made here, for a stage handed in by value would be
+// copied with its padding.
+pub(crate) fn quiet(kind: u8, allowed: u8, finished: u8) -> Taken
+    ensures { λ r. ⌜ r ≡ record { answer = Answer.Done Outcome.Nothing; stage = stageAt kind allowed finished 0 } ⌝ }
 {
-    digits[8] = 0;
+    Taken {
+        answer: Answer::Done(Outcome::Nothing),
+        stage: Stage {
+            kind: kind,
+            allowed: allowed,
+            finished: finished,
+            steps: 0,
+        },
+    }
+}
+
+// The stage stays as it was.
+pub(crate) fn refused(why: Refusal, stage: Stage) -> Taken
+    ensures { λ r. ⌜ r ≡ record { answer = Answer.Refused why; stage = stage } ⌝ }
+{
     Taken {
         answer: Answer::Refused(why),
         stage: stage,
+    }
+}
+
+// The outcome, where no read goes on.
+fn over(o: Outcome) -> Taken
+    ensures { λ r. ⌜ r ≡ record {
+      answer = Answer.Done o;
+      stage = record { kind = 0; allowed = 0; finished = 0; steps = 0 };
+    } ⌝ }
+{
+    Taken {
+        answer: Answer::Done(o),
+        stage: idle(),
     }
 }
 
@@ -45,11 +73,9 @@ pub(crate) fn finish(stage: Stage, digits: &mut [u8], o: Outcome, room: usize) -
         (finished F room o (before stage (now (digits .entry))))) ⌝ }
 {
     if room < codec::size(o) {
-        return back(stage, digits, Refusal::LogFull);
+        digits[8] = 0;
+        return refused(Refusal::LogFull, stage);
     }
     fresh::zero(digits);
-    Taken {
-        answer: Answer::Done(o),
-        stage: idle(),
-    }
+    over(o)
 }

@@ -5,7 +5,7 @@ ghost use Prim.Native.Nat.{ℕ, _+_, _<_};
 ghost use Rattle.protocol.specs.declared.Outcome.{Outcome};
 ghost use Rattle.protocol.specs.declared.Outcome.the-variants.{Nothing};
 ghost use Rattle.page.specs.declared.Answer.the-variants.{Done};
-ghost use Rattle.page.specs.Loop.{firstStanding, going, stopped as stoppedOf, advanced as advancedOf, wroteOn, entered, enterOf, ranAs};
+ghost use Rattle.page.specs.Loop.{firstStanding, going, stopped as stoppedOf, advanced as advancedOf, wroteOn, entered, enterOf, endingOf, ranAs};
 use crate::Answer;
 use crate::Ran;
 use protocol::Ending;
@@ -94,13 +94,11 @@ pub(crate) fn enter(log: &mut [u8], s: Standing, next: usize, a: Answer) -> Stan
     requires { ⌜ s .done < 18446744073709551615 ⌝ }
     ensures { λ r. ⌜ entered r (now (log .exit)) ≡ enterOf (now (log .entry)) s next a ⌝ }
 {
-    match a {
-        Answer::Refused(why) => stopped(s, why),
-        Answer::Done(o) => {
-            let end = codec::put(log, s.written, o);
-            onward(s, next, end)
-        }
-    }
+    let end = match a {
+        Answer::Refused(why) => return stopped(s, why),
+        Answer::Done(o) => codec::put(log, s.written, o),
+    };
+    onward(s, next, end)
 }
 
 // After a command of the writer. It makes no entry, so the log is not looked at.
@@ -108,20 +106,26 @@ pub(crate) fn wrote(s: Standing, next: usize, a: Answer) -> Standing
     requires { ⌜ (s .done < 18446744073709551615) × ((o : Outcome) → a ≡ Done o → o ≡ Nothing) ⌝ }
     ensures { λ r. ⌜ ((log : List ℕ) → entered r log ≡ enterOf log s next a) ⌝ }
 {
-    match a {
-        Answer::Refused(why) => stopped(s, why),
-        Answer::Done(_) => onward(s, next, s.written),
+    if let Answer::Refused(why) = a {
+        return stopped(s, why);
     }
+    onward(s, next, s.written)
+}
+
+fn ending(v: Verdict) -> Ending
+    ensures { λ r. ⌜ r ≡ endingOf v ⌝ }
+{
+    if let Verdict::Stops(why) = v {
+        return Ending::Refused(why);
+    }
+    Ending::Finished
 }
 
 pub(crate) fn ran_of(s: Standing, w: Writer) -> Ran
     ensures { λ r. ⌜ r ≡ ranAs s w ⌝ }
 {
     let v = s.verdict;
-    let e = match v {
-        Verdict::Goes => Ending::Finished,
-        Verdict::Stops(why) => Ending::Refused(why),
-    };
+    let e = ending(v);
     Ran {
         done: s.done,
         taken: s.taken,

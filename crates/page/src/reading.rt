@@ -1,6 +1,7 @@
 // One command of one reader: its numbers by value, its digits and its buffer lent. The page is only read.
 ghost use mathlib.Core.Path.{_≡_};
 ghost use mathlib.Core.Bool.{true, false};
+ghost use mathlib.Core.List.{List};
 ghost use Prim.Native.Nat.{ℕ, _<_};
 ghost use Rattle.protocol.specs.Form.{formOf, goodForm};
 ghost use Rattle.protocol.specs.Step.{nextPosition};
@@ -25,11 +26,12 @@ use protocol::Refusal;
 use protocol::Stage;
 
 // The position of the page that the next step reads.
-fn position(format: Format, bases: &[u16], stage: Stage, digits: &[u8]) -> usize
-    requires { ⌜ Held (formOf (now bases) format) (readerOf stage (now digits)) ⌝ }
-    ensures { λ r. ⌜ (r ≡ nextPosition (formOf (now (bases .entry)) format)
-        (loadReading (formOf (now (bases .entry)) format) (readerOf stage (now (digits .entry)))))
-        × (r < pageLength (formOf (now (bases .entry)) format)) ⌝ }
+fn position(format: Format, bases: &[u16], stage: Stage) -> usize
+    requires { ⌜ goodForm (formOf (now bases) format) ≡ true ⌝ }
+    ensures { λ r. ⌜ ((digits : List ℕ) → Held (formOf (now (bases .entry)) format) (readerOf stage digits)
+        → (r ≡ nextPosition (formOf (now (bases .entry)) format)
+        (loadReading (formOf (now (bases .entry)) format) (readerOf stage digits)))
+        × (r < pageLength (formOf (now (bases .entry)) format))) ⌝ }
 {
     if stage.kind == 0 {
         return 0;
@@ -38,6 +40,26 @@ fn position(format: Format, bases: &[u16], stage: Stage, digits: &[u8]) -> usize
         return layout::count_read(format, bases, stage.steps);
     }
     layout::attempt(format, bases, stage.steps)
+}
+
+// Refused: an idle reader has no step.
+fn nothing_pending(stage: Stage) -> Taken
+    ensures { λ r. ⌜ r ≡ record { answer = Answer.Refused Refusal.NothingPending; stage = stage } ⌝ }
+{
+    Taken {
+        answer: Answer::Refused(Refusal::NothingPending),
+        stage: stage,
+    }
+}
+
+// Refused: a command of the writer is none of a reader's.
+fn no_such(stage: Stage) -> Taken
+    ensures { λ r. ⌜ r ≡ record { answer = Answer.Refused Refusal.NoSuch; stage = stage } ⌝ }
+{
+    Taken {
+        answer: Answer::Refused(Refusal::NoSuch),
+        stage: stage,
+    }
 }
 
 // A step that ends the read or the attempt, with the digit that the page shows at the position; an idle reader is refused.
@@ -58,10 +80,7 @@ fn take(
         (now (buffer .entry)) ⌝ }
 {
     if stage.kind == 0 {
-        return Taken {
-            answer: Answer::Refused(Refusal::NothingPending),
-            stage: stage,
-        };
+        return nothing_pending(stage);
     }
     if stage.kind == 1 {
         return count_read::last_step(format, bases, who, stage, digits, digit, room);
@@ -102,7 +121,7 @@ pub(crate) fn advance(
         (readerOf stage (now (digits .entry))) (now (buffers .entry)) (ReaderStep i)) ⌝ }
 {
     let k = stage.steps;
-    let p = position(format, bases, stage, digits);
+    let p = position(format, bases, stage);
     let d = page[p];
     if stage.kind == 1 {
         count_read::gather(bases, k, digits, d);
@@ -134,17 +153,19 @@ pub(crate) fn read_at(
         (readerOf stage (now (digits .entry))) (now (buffers .entry)) x) ⌝ }
 {
     match x {
-        Command::BeginCountRead(_) => begins::begin_count(format, bases, stage, digits),
+        Command::BeginCountRead(_) => {
+            return begins::begin_count(stage);
+        }
         Command::BeginRecordRead(_, attempts) => {
-            begins::begin_record(format, bases, stage, digits, attempts)
+            return begins::begin_record(stage, attempts);
         }
         Command::ReaderStep(who) => {
             let n = format.n;
             let from = i * n;
             let to = from + n;
-            let p = position(format, bases, stage, digits);
+            let p = position(format, bases, stage);
             let d = page[p];
-            take(
+            return take(
                 format,
                 bases,
                 who,
@@ -153,12 +174,12 @@ pub(crate) fn read_at(
                 &mut buffers[from..to],
                 d,
                 room,
-            )
+            );
         }
-        Command::Cancel(_) => begins::drop_read(format, bases, stage, digits),
-        Command::WriteCount(_) | Command::WriteRecord(_) | Command::WriterStep => Taken {
-            answer: Answer::Refused(Refusal::NoSuch),
-            stage: stage,
-        },
+        Command::Cancel(_) => {
+            return begins::drop_read(stage, digits);
+        }
+        Command::WriteCount(_) | Command::WriteRecord(_) | Command::WriterStep => {}
     }
+    no_such(stage)
 }

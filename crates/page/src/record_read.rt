@@ -8,17 +8,16 @@ ghost use Rattle.radix.specs.Answers.{goodBases};
 ghost use Rattle.protocol.specs.Form.{Form, formOf, recordSteps, goodForm};
 ghost use Rattle.protocol.specs.Memory.{readerOf};
 ghost use Rattle.protocol.specs.Load.{loadReading};
+ghost use Rattle.protocol.specs.declared.Reader.{Reader};
 ghost use Rattle.page.specs.Held.{Fits};
 ghost use Rattle.page.specs.At.{AtRecord};
 ghost use Rattle.page.specs.Advance.{digitsWith, bufferWith};
-ghost use Rattle.page.specs.Left.{leftBy, Leaves, before, stepped, restarted, gaveUp, WholeAttempt, AttemptEnds};
-use crate::Answer;
+ghost use Rattle.page.specs.Left.{leftBy, Leaves, finished, stepped, restarted, gaveUp, WholeAttempt, AttemptEnds};
 use crate::finishing;
 use crate::finishing::Taken;
 use checks::layout;
 use protocol::Format;
 use protocol::Outcome;
-use protocol::Refusal;
 use protocol::Stage;
 use radix::Version;
 use radix::VersionRead;
@@ -41,40 +40,22 @@ fn again(stage: Stage, digits: &mut [u8], used: u8) -> Taken
     ensures { λ r. ⌜ Leaves r (now (digits .exit)) (restarted stage used) ⌝ }
 {
     fresh::zero(digits);
-    let next = Stage {
-        kind: stage.kind,
-        allowed: stage.allowed,
-        finished: used,
-        steps: 0,
-    };
-    Taken {
-        answer: Answer::Done(Outcome::Nothing),
-        stage: next,
-    }
+    finishing::quiet(stage.kind, stage.allowed, used)
 }
 
-// The last attempt failed: the buffer becomes zeros.
-fn give_up(
-    who: u8,
-    stage: Stage,
-    digits: &mut [u8],
-    buffer: &mut [u8],
-    used: u8,
-    room: usize,
-) -> Taken
-    requires { ⌜ length (now digits) ≡ 16 ⌝ }
-    ensures { λ r. ⌜ ((F : Form) → leftBy r (now (digits .exit)) (now (buffer .exit))
-        ≡ gaveUp F who used room (before stage (now (digits .entry))) (now (buffer .entry))) ⌝ }
+// The last attempt failed: the buffer becomes zeros, if the log has room.
+fn gave_up(who: u8, used: u8, buffer: &mut [u8], room: usize) -> Outcome
+    ensures { λ r. ⌜ ((F : Form) (x : Reader) → finished F room r x (now (buffer .exit))
+        ≡ gaveUp F who used room x (now (buffer .entry))) ⌝ }
 {
     let o = Outcome::GaveUp {
         reader: who,
         attempts: used,
     };
-    if room < codec::size(o) {
-        return finishing::back(stage, digits, Refusal::LogFull);
+    if codec::size(o) <= room {
+        fresh::zero(buffer);
     }
-    fresh::zero(buffer);
-    finishing::finish(stage, digits, o, room)
+    o
 }
 
 // The end of an attempt, where all digits are there.
@@ -107,7 +88,8 @@ fn end_attempt(
     if used < stage.allowed {
         return again(stage, digits, used);
     }
-    give_up(who, stage, digits, buffer, used, room)
+    let o = gave_up(who, used, buffer, room);
+    finishing::finish(stage, digits, o, room)
 }
 
 // The digit of step k in its place: a byte of the record in the buffer, a digit of a version with the digits.

@@ -1,11 +1,21 @@
 // What one command answers, by its run.
 ghost use mathlib.Core.Path.{_≡_};
-ghost use Rattle.page.specs.Calls.{steppedOf};
+ghost use Rattle.page.specs.Calls.{answerOf, steppedOf};
 use crate::Answer;
 use crate::Ran;
 use crate::Stepped;
 use protocol::Ending;
 use protocol::Outcome;
+
+// What a command answers that was not carried out.
+fn answer(e: Ending) -> Answer
+    ensures { λ r. ⌜ r ≡ answerOf e ⌝ }
+{
+    if let Ending::Refused(why) = e {
+        return Answer::Refused(why);
+    }
+    Answer::Done(Outcome::Nothing)
+}
 
 // What the run of one command and zeros told: if the command was carried out, its entry is all of the log, and what
 // the zeros after it answered is nothing to the caller.
@@ -20,14 +30,8 @@ pub fn step_of_run(r: Ran, log: [u8; 10]) -> Stepped
         };
     }
     let e = r.ending;
-    match e {
-        Ending::Refused(why) => Stepped {
-            answer: Answer::Refused(why),
-            writer: w,
-        },
-        Ending::Finished => Stepped {
-            answer: Answer::Done(Outcome::Nothing),
-            writer: w,
-        },
+    Stepped {
+        answer: answer(e),
+        writer: w,
     }
 }

@@ -1,16 +1,22 @@
 // One turn of a run: a decoded command, and its entry in the log.
 ghost use mathlib.Core.Path.{_≡_};
 ghost use mathlib.Core.Bool.{false};
-ghost use Prim.Native.Nat.{_≤_, _<_};
+ghost use mathlib.Core.List.{List};
+ghost use Prim.Native.Nat.{ℕ, _≤_, _<_};
 ghost use lib.ListN.{length};
 ghost use Rattle.protocol.specs.Form.{formOf};
 ghost use Rattle.protocol.specs.Memory.{readerOf};
+ghost use Rattle.protocol.specs.declared.Outcome.{Outcome};
+ghost use Rattle.protocol.specs.declared.Outcome.the-variants.{Nothing};
+ghost use Rattle.protocol.specs.declared.Refusal.the-variants.{UnknownCommand};
 ghost use Rattle.codec.specs.Decode.{decodeAt};
+ghost use Rattle.page.specs.declared.Answer.the-variants.{Done};
 ghost use Rattle.page.specs.Pen.{Knows};
 ghost use Rattle.page.specs.Writes.{WriteReady};
-ghost use Rattle.page.specs.Loop.{whoseIn, stepperIn, readsOnIn, writesOnIn, oneTurnBy, readTurn, TurnReady, penTurnBy, writeTurn, NoReaderIn};
+ghost use Rattle.page.specs.Loop.{stopped as stoppedOf, entered, enterOf, whoseIn, stepperIn, readsOnIn, writesOnIn, oneTurnBy, readTurn, TurnReady, penTurnBy, writeTurn, NoReaderIn};
 use crate::looping;
 use crate::looping::Standing;
+use crate::pen::Carried;
 use crate::pen::Pen;
 use crate::reading;
 use crate::writing;
@@ -131,6 +137,29 @@ pub(crate) fn read_turn(
     }
 }
 
+// No command: the run stops.
+fn no_turn(p: Pen, s: Standing) -> WriteTurn
+    ensures { λ r. ⌜ (r .standing ≡ stoppedOf s UnknownCommand) × (r .pen ≡ p) ⌝ }
+{
+    WriteTurn {
+        standing: looping::stopped(s, Refusal::UnknownCommand),
+        pen: p,
+    }
+}
+
+// The turn of a command that was carried out or refused.
+fn turned(c: Carried, s: Standing, next: usize) -> WriteTurn
+    requires { ⌜ (s .done < 18446744073709551615) × ((o : Outcome) → c .answer ≡ Done o → o ≡ Nothing) ⌝ }
+    ensures { λ r. ⌜ ((log : List ℕ) → entered (r .standing) log ≡ enterOf log s next (c .answer)) × (r .pen ≡ c .pen) ⌝ }
+{
+    let a = c.answer;
+    let after = c.pen;
+    WriteTurn {
+        standing: looping::wrote(s, next, a),
+        pen: after,
+    }
+}
+
 // A turn of the writer that is no step of a pending write, or a command that is none.
 pub(crate) fn write_turn(
     format: Format,
@@ -151,16 +180,7 @@ pub(crate) fn write_turn(
         × Knows (formOf (now (bases .entry)) format) (r .pen) ⌝ }
 {
     let Decoded::Is(x, next) = d else {
-        return WriteTurn {
-            standing: looping::stopped(s, Refusal::UnknownCommand),
-            pen: p,
-        };
+        return no_turn(p, s);
     };
-    let c = writing::write(format, bases, page, p, records, x);
-    let a = c.answer;
-    let after = c.pen;
-    WriteTurn {
-        standing: looping::wrote(s, next, a),
-        pen: after,
-    }
+    turned(writing::write(format, bases, page, p, records, x), s, next)
 }

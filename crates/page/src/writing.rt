@@ -2,6 +2,8 @@
 ghost use mathlib.Core.Path.{_≡_};
 ghost use mathlib.Core.Bool.{false};
 ghost use Rattle.protocol.specs.Form.{formOf};
+ghost use Rattle.protocol.specs.declared.Command.the-variants.{WriterStep};
+ghost use Rattle.protocol.specs.declared.Refusal.the-variants.{NothingPending, NoSuch};
 ghost use Rattle.page.specs.Pen.{Knows};
 ghost use Rattle.page.specs.Writes.{wroteBy, writes, WriteReady, NoReader, writesOn};
 use crate::pen;
@@ -11,6 +13,16 @@ use crate::write_begin;
 use protocol::Command;
 use protocol::Format;
 use protocol::Refusal;
+
+// Why a command that begins no write is refused.
+fn why(x: Command) -> Refusal
+    ensures { λ r. ⌜ (x ≡ WriterStep → r ≡ NothingPending) × ((x ≡ WriterStep → ⊥) → r ≡ NoSuch) ⌝ }
+{
+    let Command::WriterStep = x else {
+        return Refusal::NoSuch;
+    };
+    Refusal::NothingPending
+}
 
 pub(crate) fn write(
     format: Format,
@@ -29,12 +41,18 @@ pub(crate) fn write(
         × Knows (formOf (now (bases .entry)) format) (r .pen) ⌝ }
 {
     match x {
-        Command::WriteCount(c) => write_begin::begin_count(format, bases, page, records, p, c),
-        Command::WriteRecord(i) => write_begin::begin_record(format, bases, page, records, p, i),
-        Command::WriterStep => pen::refused(Refusal::NothingPending, p),
-        Command::BeginCountRead(_) => pen::refused(Refusal::NoSuch, p),
-        Command::BeginRecordRead(_, _) => pen::refused(Refusal::NoSuch, p),
-        Command::ReaderStep(_) => pen::refused(Refusal::NoSuch, p),
-        Command::Cancel(_) => pen::refused(Refusal::NoSuch, p),
+        Command::WriteCount(c) => {
+            return write_begin::begin_count(format, bases, page, records, p, c);
+        }
+        Command::WriteRecord(i) => {
+            return write_begin::begin_record(format, bases, page, records, p, i);
+        }
+        Command::WriterStep
+        | Command::BeginCountRead(_)
+        | Command::BeginRecordRead(_, _)
+        | Command::ReaderStep(_)
+        | Command::Cancel(_) => {
+            return pen::refused(why(x), p);
+        }
     }
 }

@@ -31,6 +31,7 @@ use Rattle.codec.proofs.Encodes.{decode-encode}
 use Rattle.codec.proofs.Nines.{decode-nine, decode-zeros}
 use Rattle.codec.proofs.FoundAgain.{outcome-entry, outcome-zeros}
 use Rattle.checks.proofs.Opening.{opensInto}
+use Rattle.page.specs.declared.Answer.{Answer as PageAnswer}
 use Rattle.page.specs.declared.Answer.the-variants.{Done, Refused as No}
 use Rattle.page.specs.declared.Ran.{Ran}
 use Rattle.page.specs.Carry.{Ready, After, after, onAnswer}
@@ -178,6 +179,6 @@ module _ (r : Ran) (l : List ℕ) where
   stepped-done d e = rw (e, eq-eqb (r .done) 1 d)
 
   pub stepped-not :
-      {e : Ending} → (r .done ≡ 1 → ⊥) → r .ending ≡ e →
-      record { answer = answerOf e; writer = r .writer } ≡ steppedOf r l
-  stepped-not d p = rw (ne-eqb (r .done) 1 d, p)
+      {a : PageAnswer} → (r .done ≡ 1 → ⊥) → a ≡ answerOf (r .ending) →
+      record { answer = a; writer = r .writer } ≡ steppedOf r l
+  stepped-not d e = rw (e, ne-eqb (r .done) 1 d)

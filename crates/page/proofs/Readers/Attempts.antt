@@ -19,10 +19,9 @@ use Rattle.protocol.specs.Step.{Gathered, copyA, copyB, endAttempt}
 use Rattle.protocol.specs.Outcome.{entry}
 use Rattle.protocol.specs.Memory.{storedReading}
 use Rattle.protocol.specs.declared.Outcome.the-variants.{Nothing, Accepted, GaveUp}
-use Rattle.protocol.specs.declared.Refusal.the-variants.{LogFull}
 use Rattle.protocol.specs.declared.Reader.{Reader}
 use Rattle.protocol.specs.declared.Stage.{Stage}
-use Rattle.page.specs.declared.Answer.the-variants.{Done, Refused}
+use Rattle.page.specs.declared.Answer.the-variants.{Done}
 use Rattle.page.specs.Left.{left, onGathered, finished, before, restarted, gaveUp, WholeAttempt, Copies}
 use Rattle.page.proofs.Readers.Stored.{quiet, same-fields}
 use Rattle.page.proofs.Readers.Begins.{none-stored}
@@ -67,13 +66,15 @@ module _
     (n : ℕ)
     (size : n ≡ length (entry (GaveUp who used)))
   where
-    pub over-full : room < n → left (Refused LogFull) x b ≡ gaveUp F who used room x b
+    pub over-full : room < n → finished F room (GaveUp who used) x b ≡ gaveUp F who used room x b
     unfolding onGathered
     over-full h = rw (← size, lt-ltb room n h)
 
-    pub over-done : n ≤ room → finished F room (GaveUp who used) x (replicate (length b) 0) ≡ gaveUp F who used room x b
+    pub over-done :
+        n ≤ room → (b′ : List ℕ) → b′ ≡ replicate (length b) 0 →
+        finished F room (GaveUp who used) x b′ ≡ gaveUp F who used room x b
     unfolding onGathered
-    over-done h = rw (← size, le-ltb room n h)
+    over-done h b′ e = rw (← size, le-ltb room n h, e)
 
 -- THE END, by the versions that were found
 

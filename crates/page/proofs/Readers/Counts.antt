@@ -1,12 +1,16 @@
 -- What a step of a count read leaves.
 use mathlib.Core.Path.{_≡_, refl, sym, ap, ap₂, subst, _∙_}
-use mathlib.Core.List.{List, _∷_, _++_, reverse}
+use mathlib.Core.List.{List, [], _∷_, _++_, reverse}
 use mathlib.Core.Bool.{true}
+use mathlib.Core.Logic.{⊎-elim}
 use Prim.Native.Nat.{ℕ, suc, _+_, _-_, _≤_, _<_}
 use native.Mathlib.Omega.{arith}
 use lib.ListN.{length, getD, set, drop, take, length-append, length-set}
 use lib.Seq.{drop-cons}
 use borrow.Author.Tests.{lt-ltb, le-ltb, eq-eqb}
+use denote.Enum.Declared.{tagOf}
+use types.Run.{OneOf}
+use Rattle.radix.proofs.Ends.{the-type}
 use Rattle.radix.specs.declared.Ends.{Ends}
 use Rattle.radix.specs.declared.Ends.the-variants.{Same, Between}
 use Rattle.radix.specs.declared.Comparison.{Comparison}
@@ -49,6 +53,15 @@ shownBy r b (Same c) = shows r b c
 shownBy r b (Between low high) = shows r b high
 shownBy r b Ends.Crossed = Gathered.refused CopiesCrossed
 shownBy r b (Ends.Refused why) = Gathered.refused CopiesCrossed
+
+-- the two ends that show nothing: the code tells by the tag alone
+pub none-shown : (r : ℕ) (b : List ℕ) (e : Ends) → OneOf (2 ∷ 3 ∷ []) (tagOf the-type e)
+    → shownBy r b e ≡ Gathered.refused CopiesCrossed
+unfolding shownBy
+none-shown r b (Same c) h = absurd (⊎-elim (λ e. omega (arith, e)) (λ e. omega (arith, e)) h)
+none-shown r b (Between low high) h = absurd (⊎-elim (λ e. omega (arith, e)) (λ e. omega (arith, e)) h)
+none-shown r b Ends.Crossed h = refl
+none-shown r b (Ends.Refused why) h = refl
 
 shown-at : (F : Form) (r : ℕ) (b one two : List ℕ) (x : Comparison) →
     shownBy r b (endsAt (F .bases) one two x) ≡ endCount F r b one two x

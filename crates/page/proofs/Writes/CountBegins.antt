@@ -1,13 +1,11 @@
 -- A count write begins, or why it does not.
-use mathlib.Core.Path.{_≡_, ap}
+use mathlib.Core.Path.{_≡_}
 use mathlib.Core.List.{List}
 use Prim.Native.Nat.{ℕ, _≤_, _<_}
 use native.Mathlib.Omega.{arith}
 use borrow.Author.Tests.{lt-ltb, le-ltb, le-leb, lt-leb}
 use Rattle.radix.specs.Digits.{product, value}
 use Rattle.radix.specs.declared.Count.{Count}
-use Rattle.radix.specs.declared.Fault.{Fault}
-use Rattle.radix.specs.declared.CountRead.{CountRead}
 use Rattle.protocol.specs.Form.{Form}
 use Rattle.protocol.specs.Layout.{c2, look}
 use Rattle.protocol.specs.Step.{carry}
@@ -31,41 +29,25 @@ module _ (F : Form) (S page : List ℕ) (w : Writer) (c : Count) (ready : WriteR
     unfolding carry onProtocol
     count-large h = rw (at-rest w (ready .kept) rest, le-leb (product (F .bases)) (c .0) h)
 
-    module _
-        (low : c .0 < product (F .bases))
-        {r : CountRead}
-        (g : r ≡ CountRead.Is (record { 0 = value (F .bases) (look page (c2 F)) }))
-      where
-        -- what the page says can be read
-        pub count-unread :
-            {y : Fault} → r ≡ CountRead.Refused y →
-            wrote (Refused CountDecreases) page w ≡ writes F S page w (WriteCount c)
-        count-unread k = absurd (let z : _≡_ {A = ℕ} 0 1 = cc in omega arith)
+    module _ (low : c .0 < product (F .bases)) {n : ℕ} (last-is : n ≡ value (F .bases) (look page (c2 F))) where
+      pub count-falls : c .0 < n → wrote (Refused CountDecreases) page w ≡ writes F S page w (WriteCount c)
+      unfolding carry onProtocol
+      count-falls h =
+          rw (
+            at-rest w (ready .kept) rest,
+            lt-leb (product (F .bases)) (c .0) low,
+            lt-ltb (c .0) (value (F .bases) (look page (c2 F))) (omega (arith, last-is)),
+          )
 
-        module _ {n : Count} (k : r ≡ CountRead.Is n) where
-          last-is : n .0 ≡ value (F .bases) (look page (c2 F))
-          last-is =
-              let p : n ≡ record { 0 = value (F .bases) (look page (c2 F)) } = cc in
-              ap (λ (n : Count). n .0) p
-
-          pub count-falls : c .0 < n .0 → wrote (Refused CountDecreases) page w ≡ writes F S page w (WriteCount c)
-          unfolding carry onProtocol
-          count-falls h =
-              rw (
-                at-rest w (ready .kept) rest,
-                lt-leb (product (F .bases)) (c .0) low,
-                lt-ltb (c .0) (value (F .bases) (look page (c2 F))) (omega (arith, last-is)),
-              )
-
-          pub count-begins :
-              n .0 ≤ c .0 →
-              wrote (Done Nothing) page
-              (record { kind = 1; count = c; version = record { 0 = 0 }; index = 0; steps = 0 })
-              ≡ writes F S page w (WriteCount c)
-          unfolding carry onProtocol storedWriting
-          count-begins h =
-              rw (
-                at-rest w (ready .kept) rest,
-                lt-leb (product (F .bases)) (c .0) low,
-                le-ltb (c .0) (value (F .bases) (look page (c2 F))) (omega (arith, last-is)),
-              )
+      pub count-begins :
+          n ≤ c .0 →
+          wrote (Done Nothing) page
+          (record { kind = 1; count = c; version = record { 0 = 0 }; index = 0; steps = 0 })
+          ≡ writes F S page w (WriteCount c)
+      unfolding carry onProtocol storedWriting
+      count-begins h =
+          rw (
+            at-rest w (ready .kept) rest,
+            lt-leb (product (F .bases)) (c .0) low,
+            le-ltb (c .0) (value (F .bases) (look page (c2 F))) (omega (arith, last-is)),
+          )

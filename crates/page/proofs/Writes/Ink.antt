@@ -8,7 +8,7 @@ use native.Mathlib.Omega.{arith}
 use lib.Dec.{ltb}
 use lib.ListN.{length, getD, take, drop, replicate, length-append, length-replicate, List·getD-append}
 use lib.Seq.{length-take-le, take-all}
-use borrow.Author.Tests.{ltb-true, ltb-false, eq-eqb, le-leb}
+use borrow.Author.Tests.{ltb-true, ltb-false, eq-eqb, le-ltb, le-leb}
 use Rattle.radix.specs.Digits.{product, digits, Valid, none, more, bytes, ofBytes}
 use Rattle.radix.specs.declared.Version.{Version}
 use Rattle.radix.specs.Answers.{goodBases, Into, into, digitsInto, versionInto}
@@ -146,6 +146,10 @@ pub version-into :
 version-into base q v out h = rw (le-leb q 4 h)
 
 -- WHAT INK SAYS
+
+pub no-ink : (bs : List ℕ) (x : ℕ) → product bs ≤ x → Inked.TooLarge ≡ inked bs x
+unfolding inked
+no-ink bs x h = rw (le-ltb x (product bs) h)
 
 module _ (bs : List ℕ) (x : ℕ) {i : Inked} (e : i ≡ inked bs x) where
   by-test : (t : Bool) → ltb x (product bs) ≡ t → i ≡ cond t (Inked.Is (ofBytes (eight (digits bs x)))) Inked.TooLarge

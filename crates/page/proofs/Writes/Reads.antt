@@ -8,19 +8,21 @@ use lib.ListN.{length, take, drop, replicate}
 use borrow.Author.Tests.{le-leb, eq-eqb}
 use Rattle.radix.specs.Digits.{value, valid}
 use Rattle.radix.specs.Answers.{goodBases, valueOf, asCount, asVersion, versionValue}
+use Rattle.radix.specs.declared.Count.{Count}
+use Rattle.radix.specs.declared.Version.{Version}
+use Rattle.radix.specs.declared.Fault.{Fault}
 use Rattle.radix.specs.declared.CountRead.{CountRead}
 use Rattle.radix.specs.declared.VersionRead.{VersionRead}
 use Rattle.radix.proofs.Theorems.RoundTrip.{valid-sound, length-valid}
 use Rattle.protocol.specs.Lists.{range}
-use Rattle.protocol.specs.Form.{Form, m, versionBases}
+use Rattle.protocol.specs.Form.{Form, m, versionBases, goodForm}
 use Rattle.protocol.specs.Layout.{c1, c2, v1, v2, look}
 use Rattle.protocol.specs.Allowed.{allowedPage}
-use Rattle.protocol.specs.declared.Writer.{Writer}
 use Rattle.protocol.proofs.InRange.{in-range}
 use Rattle.protocol.proofs.Lists.Cases.{four}
 use Rattle.checks.proofs.Forms.{good-counts, good-versions}
 use Rattle.checks.proofs.Looks.{look-part}
-use Rattle.page.specs.Writes.{WriteReady}
+use Rattle.page.specs.Held.{pageLength}
 
 -- a part of the page, as the code lends it
 lent-part :
@@ -42,33 +44,59 @@ version-is base q few good ds v =
     let bs = replicate q base in
     rw (le-leb q 4 few, good, eq-eqb (length ds) (length bs) (length-valid (valid-sound bs ds v)), v)
 
-module _ (F : Form) (S page : List ℕ) (w : Writer) (ready : WriteReady F S page w) (end : ℕ) where
-  -- the second copy of the count
-  pub read-count :
-      end ≡ m F + m F →
-      asCount (valueOf (F .bases) (take (end - m F) (drop (m F) page)))
-      ≡ CountRead.Is (record { 0 = value (F .bases) (look page (c2 F)) })
-  unfolding allowedPage
-  read-count is =
-      let v =
-      four (valid (F .bases) (look page (c1 F))) (valid (F .bases) (look page (c2 F)))
-      (valid (versionBases F) (look page (v1 F))) (valid (versionBases F) (look page (v2 F))) (ready .allows)
-      in
-      rw (lent-part page (m F) (m F) end is (omega (arith, ready .long)))
-      (count-is (F .bases) (look page (c2 F)) (good-counts F (ready .good)) (v .1))
+-- what was read is one number, and no fault
+module _ {r : CountRead} {v : ℕ} (e : r ≡ CountRead.Is (record { 0 = v })) where
+  pub some-count : {y : Fault} → r ≡ CountRead.Refused y → ⊥
+  some-count k = let z : _≡_ {A = ℕ} 0 1 = cc in omega arith
 
-  -- the first copy of the version
-  pub read-version :
-      (from : ℕ) → from ≡ m F + m F → end ≡ from + F .q →
-      asVersion (versionValue (F .base) (F .q) (take (end - from) (drop from page)))
-      ≡ VersionRead.Is (record { 0 = value (versionBases F) (look page (v1 F)) })
-  unfolding allowedPage
-  read-version from at is =
-      let v =
-      four (valid (F .bases) (look page (c1 F))) (valid (F .bases) (look page (c2 F)))
-      (valid (versionBases F) (look page (v1 F))) (valid (versionBases F) (look page (v2 F))) (ready .allows)
-      in
-      ap (λ a. asVersion (versionValue (F .base) (F .q) (take (end - a) (drop a page)))) at
-      ∙ rw (lent-part page (m F + m F) (F .q) end (omega arith) (omega (arith, ready .long)))
-      (version-is (F .base) (F .q) (in-range F (ready .good) .versions .1) (good-versions F (ready .good))
-      (look page (v1 F)) (v .2))
+  pub same-count : {n : Count} → r ≡ CountRead.Is n → n .0 ≡ v
+  same-count {n} k =
+      let p : n ≡ record { 0 = v } = cc in
+      ap (λ (n : Count). n .0) p
+
+module _ {r : VersionRead} {v : ℕ} (e : r ≡ VersionRead.Is (record { 0 = v })) where
+  pub some-version : {y : Fault} → r ≡ VersionRead.Refused y → ⊥
+  some-version k = let z : _≡_ {A = ℕ} 0 1 = cc in omega arith
+
+  pub same-version : {n : Version} → r ≡ VersionRead.Is n → n .0 ≡ v
+  same-version {n} k =
+      let p : n ≡ record { 0 = v } = cc in
+      ap (λ (n : Version). n .0) p
+
+module _
+    (F : Form)
+    (page : List ℕ)
+    (good : goodForm F ≡ true)
+    (long : length page ≡ pageLength F)
+    (allows : allowedPage F page ≡ true)
+    (end : ℕ)
+  where
+    -- the second copy of the count
+    pub read-count :
+        end ≡ m F + m F →
+        asCount (valueOf (F .bases) (take (end - m F) (drop (m F) page)))
+        ≡ CountRead.Is (record { 0 = value (F .bases) (look page (c2 F)) })
+    unfolding allowedPage
+    read-count is =
+        let v =
+        four (valid (F .bases) (look page (c1 F))) (valid (F .bases) (look page (c2 F)))
+        (valid (versionBases F) (look page (v1 F))) (valid (versionBases F) (look page (v2 F))) allows
+        in
+        rw (lent-part page (m F) (m F) end is (omega (arith, long)))
+        (count-is (F .bases) (look page (c2 F)) (good-counts F good) (v .1))
+
+    -- the first copy of the version
+    pub read-version :
+        (from : ℕ) → from ≡ m F + m F → end ≡ from + F .q →
+        asVersion (versionValue (F .base) (F .q) (take (end - from) (drop from page)))
+        ≡ VersionRead.Is (record { 0 = value (versionBases F) (look page (v1 F)) })
+    unfolding allowedPage
+    read-version from at is =
+        let v =
+        four (valid (F .bases) (look page (c1 F))) (valid (F .bases) (look page (c2 F)))
+        (valid (versionBases F) (look page (v1 F))) (valid (versionBases F) (look page (v2 F))) allows
+        in
+        ap (λ a. asVersion (versionValue (F .base) (F .q) (take (end - a) (drop a page)))) at
+        ∙ rw (lent-part page (m F + m F) (F .q) end (omega arith) (omega (arith, long)))
+        (version-is (F .base) (F .q) (in-range F good .versions .1) (good-versions F good)
+        (look page (v1 F)) (v .2))

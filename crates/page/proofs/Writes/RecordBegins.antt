@@ -1,5 +1,5 @@
 -- A record write begins, or why it does not.
-use mathlib.Core.Path.{_≡_, sym, ap, _∙_}
+use mathlib.Core.Path.{_≡_, sym, _∙_}
 use mathlib.Core.List.{List}
 use mathlib.Core.Bool.{true, false}
 use Prim.Native.Nat.{ℕ, suc, _+_, _/_, _≤_, _<_}
@@ -7,9 +7,6 @@ use native.Mathlib.Omega.{arith}
 use lib.ListN.{length}
 use borrow.Author.Tests.{lt-ltb, le-ltb, le-leb, lt-leb}
 use Rattle.radix.specs.Digits.{product, value}
-use Rattle.radix.specs.declared.Version.{Version}
-use Rattle.radix.specs.declared.Fault.{Fault}
-use Rattle.radix.specs.declared.VersionRead.{VersionRead}
 use Rattle.protocol.specs.Form.{Form, versionBases}
 use Rattle.protocol.specs.Layout.{v1, look}
 use Rattle.protocol.specs.Step.{inRecords, carry}
@@ -45,58 +42,36 @@ module _ (F : Form) (S page : List ℕ) (w : Writer) (i : ℕ) (ready : WriteRea
     unfolding carry onProtocol
     record-busy n = rw (there F S i some-bytes h, at-work w (ready .kept) n)
 
-    module _
-        (rest : w .kind ≡ 0)
-        {r : VersionRead}
-        (g : r ≡ VersionRead.Is (record { 0 = value (versionBases F) (look page (v1 F)) }))
-      where
-        -- what the page says can be read
-        pub record-unread :
-            {y : Fault} → r ≡ VersionRead.Refused y →
-            wrote (Refused VersionsExhausted) page w ≡ writes F S page w (WriteRecord i)
-        record-unread k = absurd (let z : _≡_ {A = ℕ} 0 1 = cc in omega arith)
+    module _ (rest : w .kind ≡ 0) {n : ℕ} (last-is : n ≡ value (versionBases F) (look page (v1 F))) where
+      pub record-large :
+          product (versionBases F) ≤ n + 1 →
+          wrote (Refused VersionsExhausted) page w ≡ writes F S page w (WriteRecord i)
+      unfolding carry onProtocol
+      record-large l =
+          rw (
+            there F S i some-bytes h,
+            at-rest w (ready .kept) rest,
+            le-leb (product (versionBases F)) (suc (value (versionBases F) (look page (v1 F))))
+                (omega (arith, last-is)),
+          )
 
-        module _ {n : Version} (k : r ≡ VersionRead.Is n) where
-          last-is : n .0 ≡ value (versionBases F) (look page (v1 F))
-          last-is =
-              let p : n ≡ record { 0 = value (versionBases F) (look page (v1 F)) } = cc in
-              ap (λ (n : Version). n .0) p
-
-          pub record-large :
-              product (versionBases F) ≤ n .0 + 1 →
-              wrote (Refused VersionsExhausted) page w ≡ writes F S page w (WriteRecord i)
-          unfolding carry onProtocol
-          record-large l =
-              rw (
-                there F S i some-bytes h,
-                at-rest w (ready .kept) rest,
-                le-leb (product (versionBases F)) (suc (value (versionBases F) (look page (v1 F))))
-                    (omega (arith, last-is)),
-              )
-
-          pub record-last :
-              n .0 ≡ 4294967295 → wrote (Refused VersionsExhausted) page w ≡ writes F S page w (WriteRecord i)
-          record-last e =
-              let r = in-range F (ready .good) in
-              record-large (omega arith)
-
-          pub record-begins :
-              n .0 + 1 < product (versionBases F) →
-              wrote (Done Nothing) page
-              (record {
-                kind = 2;
-                count = record { 0 = 0 };
-                version = record { 0 = n .0 + 1 };
-                index = i;
-                steps = 0;
-              })
-              ≡ writes F S page w (WriteRecord i)
-          unfolding carry onProtocol storedWriting
-          record-begins low =
-              let v : n .0 + 1 ≡ suc (value (versionBases F) (look page (v1 F))) = omega (arith, last-is) in
-              rw (
-                there F S i some-bytes h,
-                at-rest w (ready .kept) rest,
-                v,
-                lt-leb (product (versionBases F)) (suc (value (versionBases F) (look page (v1 F)))) (omega arith),
-              )
+      pub record-begins :
+          n + 1 < product (versionBases F) →
+          wrote (Done Nothing) page
+          (record {
+            kind = 2;
+            count = record { 0 = 0 };
+            version = record { 0 = n + 1 };
+            index = i;
+            steps = 0;
+          })
+          ≡ writes F S page w (WriteRecord i)
+      unfolding carry onProtocol storedWriting
+      record-begins low =
+          let v : n + 1 ≡ suc (value (versionBases F) (look page (v1 F))) = omega (arith, last-is) in
+          rw (
+            there F S i some-bytes h,
+            at-rest w (ready .kept) rest,
+            v,
+            lt-leb (product (versionBases F)) (suc (value (versionBases F) (look page (v1 F)))) (omega arith),
+          )

@@ -7,12 +7,13 @@ refused-requires : tie.Need-refused-requires
 refused-requires c κs = search needs
 
 returns : tie.Need-returns
-returns c =
-    let s = c .before .before .before .before .before in
-    λ b. rw (c .refused .ensures) (begin-busy _ _ (s .pre) b _ (c .before .if1 .taken))
+returns c F digits held b = rw (c .refused .ensures) (begin-busy _ _ held b _ (c .before .if1 .taken))
+
+quiet-requires : tie.Need-quiet-requires
+quiet-requires c κs = search needs
 
 returns-2 : tie.Need-returns-2
-returns-2 c = λ b. begin-count _ _ (c .before .before .before .before .pre) b (c .if1 .left)
+returns-2 c F digits held b = rw (c .quiet .ensures) (begin-count _ _ held b (c .before .if1 .left))
 
 pub begin-count-spec : {M : Type 1} → statement M
-begin-count-spec = tie.close (tie.spec refused-requires returns returns-2)
+begin-count-spec = tie.close (tie.spec refused-requires returns quiet-requires returns-2)

@@ -7,25 +7,22 @@ refused-requires : tie.Need-refused-requires
 refused-requires c κs = search needs
 
 returns : tie.Need-returns
-returns c =
-    let i = c .before in
-    λ b. rw (c .refused .ensures) (begin-none _ _ (i .before .before .before .pre) b _ (i .if1 .taken))
+returns c F digits held b = rw (c .refused .ensures) (begin-none _ _ held b _ (c .before .if1 .taken))
 
 refused-requires-2 : tie.Need-refused-requires-2
 refused-requires-2 c κs = search needs
 
 returns-2 : tie.Need-returns-2
-returns-2 c =
-    let i = c .before in
-    let e = i .before .before in
-    λ b. rw (c .refused2 .ensures)
-    (begin-late _ _ (e .before .before .before .pre) b _ (e .if1 .left) (i .if2 .taken))
+returns-2 c F digits held b =
+    let i = c .before in rw (c .refused2 .ensures) (begin-late _ _ held b _ (i .before .before .if1 .left) (i .if2 .taken))
+
+quiet-requires : tie.Need-quiet-requires
+quiet-requires c κs = search needs
 
 returns-3 : tie.Need-returns-3
-returns-3 c =
-    let e = c .before .before in
-    λ b. begin-record _ _ (e .before .before .before .pre) b _ (e .if1 .left) (c .if2 .left)
+returns-3 c F digits held b =
+    let i = c .before in rw (c .quiet .ensures) (begin-record _ _ held b _ (i .before .before .if1 .left) (i .if2 .left))
 
 pub begin-record-spec : {M : Type 1} → statement M
 begin-record-spec =
-    tie.close (tie.spec refused-requires returns refused-requires-2 returns-2 returns-3)
+    tie.close (tie.spec refused-requires returns refused-requires-2 returns-2 quiet-requires returns-3)

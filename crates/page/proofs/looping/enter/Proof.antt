@@ -10,6 +10,12 @@ enum-known-a c = search needs
 stopped-requires : tie.Need-stopped-requires
 stopped-requires c κs = search needs
 
+returns : tie.Need-returns
+returns c =
+    let k = c .before .before in
+    let s = k .before .before .before .args in
+    enter-refused (s .log .now) (s .s) (s .next) (k .a .given .1) (c .stopped .ensures)
+
 enum-known-a-2 : tie.Need-enum-known-a-2
 enum-known-a-2 c = search needs
 
@@ -18,12 +24,6 @@ put-requires c κs = search needs
 
 onward-requires : tie.Need-onward-requires
 onward-requires c κs = search needs
-
-returns : tie.Need-returns
-returns c =
-    let k = c .before .before in
-    let s = k .before .before .before .args in
-    enter-refused (s .log .now) (s .s) (s .next) (k .a .given .1) (c .stopped .ensures)
 
 same-length : tie.Need-same-length
 same-length c = search needs
@@ -41,9 +41,9 @@ enter-spec =
     (tie.spec
     enum-known-a
     stopped-requires
+    returns
     enum-known-a-2
     put-requires
     onward-requires
-    returns
     same-length
     returns-2)

@@ -10,17 +10,17 @@ enum-known-a c = search needs
 stopped-requires : tie.Need-stopped-requires
 stopped-requires c κs = search needs
 
-enum-told : tie.Need-enum-told
-enum-told c = search needs
-
-onward-requires : tie.Need-onward-requires
-onward-requires c κs = search needs
-
 returns : tie.Need-returns
 returns c log =
     let k = c .before .before in
     let s = k .before .before .args in
     enter-refused log (s .s) (s .next) (k .a .given .1) (c .stopped .ensures)
+
+enum-told : tie.Need-enum-told
+enum-told c = search needs
+
+onward-requires : tie.Need-onward-requires
+onward-requires c κs = search needs
 
 returns-2 : tie.Need-returns-2
 returns-2 c log =
@@ -31,4 +31,4 @@ returns-2 c log =
 
 pub wrote-spec : {M : Type 1} → statement M
 wrote-spec =
-    tie.close (tie.spec enum-known-a stopped-requires enum-told onward-requires returns returns-2)
+    tie.close (tie.spec enum-known-a stopped-requires returns enum-told onward-requires returns-2)

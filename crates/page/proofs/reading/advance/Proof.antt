@@ -21,19 +21,22 @@ position-requires : tie.Need-position-requires
 position-requires c κs = search needs
 
 slice-read-d : tie.Need-slice-read-d
-slice-read-d c = search needs
+slice-read-d c =
+    let p = c .before in
+    let s = p .before .before .before .before in
+    rw (s .pre .0 .long) (p .position .ensures _ (s .pre .0 .held) .1)
 
 gather-requires : tie.Need-gather-requires
 gather-requires c κs =
     let i = c .before in
-    let s = i .before .before .before .before .before .before .before .before .before in
+    let s = i .before .before .before .before .before .before .before in
     let a = is-count _ _ _ _ _ _ (s .pre .0) (s .pre .1) (i .if1 .taken) in
     (a .places .1, omega (arith, a .steps, a .few), a .long)
 
 add-result : tie.Need-add-result
 add-result c =
     let i = c .before .before in
-    let s = i .before .before .before .before .before .before .before .before .before in
+    let s = i .before .before .before .before .before .before .before in
     let r = in-range _ (s .pre .0 .held .form) in
     omega (arith, more-count _ _ (s .pre .1) (i .if1 .taken), r .places)
 
@@ -41,10 +44,10 @@ returns : tie.Need-returns
 returns c =
     let i = c .before .before in
     let p = i .before .before .before in
-    let s = p .before .before .before .before .before .before in (
+    let s = p .before .before .before .before in (
       refl,
       λ room. rw (c .gather .ensures)
-          (advance-count _ _ _ _ _ _ (s .pre .0) (s .pre .1) _ room (p .position .ensures .0) (i .if1 .taken)),
+          (advance-count _ _ _ _ _ _ (s .pre .0) (s .pre .1) _ room (p .position .ensures _ (s .pre .0 .held) .0) (i .if1 .taken)),
     )
 
 -- a part's end fits
@@ -54,10 +57,10 @@ bytes s =
     part-small _ _ (s .args .buffers .now) _ (s .pre .0 .below) (r .readers .1) (r .bytes .1)
 
 mul-from : tie.Need-mul-from
-mul-from c = omega (arith, bytes (c .before .before .before .before .before .before .before .before .before))
+mul-from c = omega (arith, bytes (c .before .before .before .before .before .before .before))
 
 add-to : tie.Need-add-to
-add-to c = omega (arith, bytes (c .before .before .before .before .before .before .before .before .before))
+add-to c = omega (arith, bytes (c .before .before .before .before .before .before .before))
 
 sub-gather : tie.Need-sub-gather
 sub-gather c = search needs
@@ -67,21 +70,21 @@ part-gather-start c = search needs
 
 part-gather-end : tie.Need-part-gather-end
 part-gather-end c =
-    let s = c .before .before .before .before .before .before .before .before .before .before in
+    let s = c .before .before .before .before .before .before .before .before in
     part-there _ _ (s .args .buffers .now) _ (s .pre .0 .below) (s .pre .0 .size)
 
 gather-requires-2 : tie.Need-gather-requires-2
 gather-requires-2 c κs =
     let i = c .before .before in
     let p = i .before .before .before in
-    let s = p .before .before .before .before .before .before in
+    let s = p .before .before .before .before in
     let a = is-record _ _ _ _ _ _ (s .pre .0) (s .pre .1) (i .if1 .left) in
-    (a .form, a .few, a .long, step-ready _ _ _ _ _ _ (s .pre .0) _ (p .position .ensures .0) .size)
+    (a .form, a .few, a .long, step-ready _ _ _ _ _ _ (s .pre .0) _ (p .position .ensures _ (s .pre .0 .held) .0) .size)
 
 add-result-2 : tie.Need-add-result-2
 add-result-2 c =
     let i = c .before .before .before .before .before in
-    let s = i .before .before .before .before .before .before .before .before .before in
+    let s = i .before .before .before .before .before .before .before in
     let r = in-range _ (s .pre .0 .held .form) in
     omega (arith, more-record _ _ (s .pre .1) (i .if1 .left), r .versions, r .bytes)
 
@@ -93,10 +96,10 @@ returns-2 c =
     let g = c .before .before in
     let i = g .before .before .before in
     let p = i .before .before .before in
-    let s = p .before .before .before .before .before .before in (
+    let s = p .before .before .before .before in (
       refl,
       λ room. rw (g .gather2 .ensures .0, g .gather2 .ensures .1)
-          (advance-record _ _ _ _ _ _ (s .pre .0) (s .pre .1) _ room (p .position .ensures .0) (i .if1 .left)),
+          (advance-record _ _ _ _ _ _ (s .pre .0) (s .pre .1) _ room (p .position .ensures _ (s .pre .0 .held) .0) (i .if1 .left)),
     )
 
 pub advance-spec : {M : Type 1} → statement M

@@ -6,28 +6,24 @@ use Rattle.page.proofs.reading.position.Statement.{statement}
 use Rattle.page.proofs.reading.position.Tie as tie
 
 returns : tie.Need-returns
-returns c =
-    let s = c .before .before .before .before in
-    next-idle _ _ (s .pre) (c .if1 .taken)
+returns c l held = next-idle _ _ held (c .if1 .taken)
 
 count-read-requires : tie.Need-count-read-requires
 count-read-requires c κs = search needs
 
 returns-2 : tie.Need-returns-2
-returns-2 c =
+returns-2 c l held =
     let i = c .before in
-    let s = i .before .before .before .before .before .before in
-    next-count _ _ (at-count _ _ (s .pre) (i .if2 .taken)) _ (c .count-read .ensures)
+    next-count _ _ (at-count _ _ held (i .if2 .taken)) _ (c .count-read .ensures)
 
 attempt-requires : tie.Need-attempt-requires
 attempt-requires c κs = search needs
 
 returns-3 : tie.Need-returns-3
-returns-3 c =
+returns-3 c l held =
     let i = c .before in
     let e = i .before .before in
-    let s = e .before .before .before .before in
-    next-attempt _ _ (at-record _ _ (s .pre) (e .if1 .left) (i .if2 .left)) _ (c .attempt .ensures)
+    next-attempt _ _ (at-record _ _ held (e .if1 .left) (i .if2 .left)) _ (c .attempt .ensures)
 
 pub position-spec : {M : Type 1} → statement M
 position-spec =

@@ -6,10 +6,14 @@ use borrow.Author.Needs.{needs}
 use Rattle.page.proofs.reading.take.Statement.{statement}
 use Rattle.page.proofs.reading.take.Tie as tie
 
+nothing-pending-requires : tie.Need-nothing-pending-requires
+nothing-pending-requires c κs = search needs
+
 returns : tie.Need-returns
 returns c =
-    let s = c .before .before .before .before .before in
-    step-idle _ _ (s .pre .0 .held) _ _ _ _ (c .if1 .taken)
+    let i = c .before in
+    let s = i .before .before .before .before .before in
+    rw (c .nothing-pending .ensures) (step-idle _ _ (s .pre .0 .held) _ _ _ _ (i .if1 .taken))
 
 last-step-requires : tie.Need-last-step-requires
 last-step-requires c κs =
@@ -45,6 +49,7 @@ pub take-spec : {M : Type 1} → statement M
 take-spec =
     tie.close
     (tie.spec
+    nothing-pending-requires
     returns
     last-step-requires
     same-length

@@ -3,6 +3,7 @@ use mathlib.Core.Path.{_≡_, _∙_}
 use native.Mathlib.Omega.{arith}
 use lib.ListN.{take, drop, replicate, length-take}
 use Rattle.radix.specs.Digits.{value}
+use Rattle.protocol.specs.Form.{formOf}
 use Rattle.checks.proofs.Forms.{good-versions}
 use Rattle.page.proofs.Readers.Attempts.{second-valid, second-part, attempt-same, attempt-again, attempt-over}
 use borrow.Author.Needs.{needs}
@@ -83,8 +84,11 @@ returns-2 c =
     λ ds k. z .again .ensures _
     ∙ attempt-again _ _ _ _ _ _ (s .pre) ds k _ _ (second v) (u .version .ensures) (i .if1 .left) (z .before .before .if2 .taken)
 
-give-up-requires : tie.Need-give-up-requires
-give-up-requires c κs = search needs
+gave-up-requires : tie.Need-gave-up-requires
+gave-up-requires c κs = search needs
+
+finish-requires-2 : tie.Need-finish-requires-2
+finish-requires-2 c κs = search needs
 
 same-length-3 : tie.Need-same-length-3
 same-length-3 c = search needs
@@ -94,13 +98,17 @@ same-length-4 c = search needs
 
 returns-3 : tie.Need-returns-3
 returns-3 c =
-    let z = c .before .before .before .before in
-    let i = z .before .before .before .before .before in
+    let z = c .before .before in
+    let g = z .before .before .before .before in
+    let e = g .before .before in
+    let i = e .before .before in
     let v = i .before .before .before .before in
     let u = v .before .before .before in
     let s = u .before .before .before .before .before in
-    λ ds k. z .give-up .ensures _
-    ∙ attempt-over _ _ _ _ _ _ (s .pre) ds k _ _ (second v) (u .version .ensures) (i .if1 .left) (z .before .before .before .if2 .left)
+    let F = formOf (s .args .bases .now) (s .args .format) in
+    λ ds k. z .finish2 .ensures F _
+    ∙ g .gave-up .ensures F _
+    ∙ attempt-over _ _ _ _ _ _ (s .pre) ds k _ _ (second v) (u .version .ensures) (i .if1 .left) (e .if2 .left)
 
 pub end-attempt-spec : {M : Type 1} → statement M
 end-attempt-spec =
@@ -121,7 +129,8 @@ end-attempt-spec =
     again-requires
     same-length-2
     returns-2
-    give-up-requires
+    gave-up-requires
+    finish-requires-2
     same-length-3
     same-length-4
     returns-3)

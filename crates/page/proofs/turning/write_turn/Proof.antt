@@ -15,15 +15,16 @@ form s = formOf (s .args .bases .now) (s .args .format)
 enum-known-d : tie.Need-enum-known-d
 enum-known-d c = search needs
 
-stopped-requires : tie.Need-stopped-requires
-stopped-requires c κs = search needs
+no-turn-requires : tie.Need-no-turn-requires
+no-turn-requires c κs = search needs
 
 returns : tie.Need-returns
 returns c =
     let s = c .before .before .before .before .before in
-    let a = s .args in (
-      write-none (form s) (a .records .now) (a .page .now) (a .p .writer) (a .s) (a .d) (c .before .match .keys2)
-          (c .stopped .ensures),
+    let a = s .args in
+    let e = c .no-turn .ensures in
+    rw (e .1) (
+      write-none (form s) (a .records .now) (a .page .now) (a .p .writer) (a .s) (a .d) (c .before .match .keys2) (e .0),
       s .pre .1,
     )
 
@@ -34,9 +35,9 @@ write-requires c κs =
     let s = k .before .before .before .before .before in
     (s .pre .0, s .pre .1, rw (k .d .given .1) at (s .pre .2), rw (k .d .given .1) at (s .pre .3))
 
-wrote-requires : tie.Need-wrote-requires
-wrote-requires c κs =
-    let r = c .before .before .before in
+turned-requires : tie.Need-turned-requires
+turned-requires c κs =
+    let r = c .before .before in
     let k = r .before .before .before in
     let s = k .before .before .before .before .before in
     let a = s .args in (
@@ -51,12 +52,14 @@ same-length c = search needs
 
 returns-2 : tie.Need-returns-2
 returns-2 c =
-    let r = c .before .before .before .before in
+    let r = c .before .before .before in
     let k = r .before .before .before in
     let s = k .before .before .before .before .before in
-    let a = s .args in (
+    let a = s .args in
+    let e = c .turned .ensures in
+    rw (e .1) (
       write-done (form s) (a .records .now) (a .page .now) (a .p .writer) (a .s) (k .d .given .1) (r .write .ensures .0)
-          (c .wrote .ensures),
+          (e .0),
       r .write .ensures .1,
     )
 
@@ -65,9 +68,9 @@ write-turn-spec =
     tie.close
     (tie.spec
     enum-known-d
-    stopped-requires
+    no-turn-requires
     returns
     write-requires
-    wrote-requires
+    turned-requires
     same-length
     returns-2)

@@ -1,17 +1,22 @@
 -- Each return is one branch of the protocol's `carry`.
 use borrow.Author.Needs.{needs}
-use mathlib.Core.Path.{_≡_, refl, sym, _∙_}
-use Prim.Native.Nat.{_<_}
+use mathlib.Core.Path.{_≡_, refl, sym, ap, _∙_}
+use mathlib.Core.Logic.{⊎-elim}
+use Prim.Native.Nat.{ℕ, _<_}
 use Rattle.radix.specs.Digits.{product, value}
 use Rattle.radix.specs.declared.CountRead.{CountRead}
 use Rattle.protocol.specs.Form.{Form, formOf}
 use Rattle.protocol.specs.Layout.{c2, look}
+use Rattle.protocol.specs.declared.Outcome.the-variants.{Nothing}
+use Rattle.protocol.specs.declared.Writer.{Writer}
 use Rattle.checks.proofs.Forms.{good-counts}
+use Rattle.page.specs.declared.Answer.{Answer}
+use Rattle.page.specs.declared.pen.Carried.{Carried}
 use Rattle.page.proofs.Writes.Ink.{ink-low, ink-high, ink-bytes}
 use Rattle.page.proofs.Writes.Writers.{answered}
 use Rattle.page.proofs.Writes.Pending.{count-ink-of}
-use Rattle.page.proofs.Writes.Reads.{read-count}
-use Rattle.page.proofs.Writes.CountBegins.{count-busy, count-large, count-unread, count-falls, count-begins}
+use Rattle.page.proofs.Writes.Reads.{read-count, some-count, same-count}
+use Rattle.page.proofs.Writes.CountBegins.{count-busy, count-large, count-falls, count-begins}
 use Rattle.page.proofs.write_begin.begin_count.Statement.{statement}
 use Rattle.page.proofs.write_begin.begin_count.Tie as tie
 
@@ -96,60 +101,60 @@ said : (r : tie.After-read) →
 said r =
     let s = enter-read r in
     r .read .ensures
-    ∙ read-count (form s) (s .args .records .now) (s .args .page .now) (s .args .p .writer) (s .pre .0) _
+    ∙ read-count (form s) (s .args .page .now) (s .pre .0 .good) (s .pre .0 .long) (s .pre .0 .allows) _
     (r .before .before .count-steps .ensures)
 
-enum-known-last : tie.Need-enum-known-last
-enum-known-last c = search needs
+enum-known-x : tie.Need-enum-known-x
+enum-known-x c = search needs
 
 enum-told-2 : tie.Need-enum-told-2
 enum-told-2 c = search needs
+
+-- it can be read, so that is the last count
+last-is : (m : tie.At-match2-came) →
+    let s = enter-read (m .before) in
+    m .match2 .last ≡ value (s .args .bases .now) (look (s .args .page .now) (c2 (form s)))
+last-is m =
+    let is = said (m .before) in
+    ⊎-elim (λ h. h .3 ∙ same-count is (h .1 .given .1)) (λ h. absurd (some-count is (h .1 .given .1))) (m .match2 .came)
 
 refused-requires-3 : tie.Need-refused-requires-3
 refused-requires-3 c κs = search needs
 
 returns-3 : tie.Need-returns-3
 returns-3 c =
-    let r = c .before .before .before in
-    let i = ink-at r in
+    let t = c .before in
+    let m = t .before .before in
+    let i = ink-at (m .before) in
     let k = i .before .before .before in
     let s = enter k in
     answered (form s) (s .args .page .now) _ (c .refused3 .ensures)
-    (count-unread (form s) (s .args .records .now) (s .args .page .now) (s .args .p .writer) (s .args .c) (s .pre .0)
-    (k .if1 .left) (low i) (said r) (c .before .enum-told2 .given .1))
-    (s .pre .1)
-
-refused-requires-4 : tie.Need-refused-requires-4
-refused-requires-4 c κs = search needs
-
-returns-4 : tie.Need-returns-4
-returns-4 c =
-    let t = c .before in
-    let l = t .before .before .before .before in
-    let r = l .before .before in
-    let i = ink-at r in
-    let k = i .before .before .before in
-    let s = enter k in
-    answered (form s) (s .args .page .now) _ (c .refused4 .ensures)
     (count-falls (form s) (s .args .records .now) (s .args .page .now) (s .args .p .writer) (s .args .c) (s .pre .0)
-    (k .if1 .left) (low i) (said r) (l .last .given .1) (t .if2 .taken))
+    (k .if1 .left) (low i) (last-is m) (t .if2 .taken))
     (s .pre .1)
+
+counting-requires : tie.Need-counting-requires
+counting-requires c κs = search needs
 
 begun-requires : tie.Need-begun-requires
 begun-requires c κs = search needs
 
-returns-5 : tie.Need-returns-5
-returns-5 c =
-    let t = c .before in
-    let l = t .before .before .before .before in
-    let r = l .before .before in
-    let i = ink-at r in
+abbrev begins : ℕ → Writer → Carried
+begins ink w = record { answer = Answer.Done Nothing; pen = record { writer = w; known = 1; ink = ink } }
+
+returns-4 : tie.Need-returns-4
+returns-4 c =
+    let w = c .before in
+    let t = w .before in
+    let m = t .before .before in
+    let i = ink-at (m .before) in
     let o = i .before .before in
     let k = o .before in
     let s = enter k in
-    answered (form s) (s .args .page .now) _ (c .begun .ensures)
+    answered (form s) (s .args .page .now) _
+    (c .begun .ensures ∙ ap (begins (i .ink .given .0 .0)) (w .counting .ensures))
     (count-begins (form s) (s .args .records .now) (s .args .page .now) (s .args .p .writer) (s .args .c) (s .pre .0)
-    (k .if1 .left) (low i) (said r) (l .last .given .1) (t .if2 .left))
+    (k .if1 .left) (low i) (last-is m) (t .if2 .left))
     (λ _ _.
     ink-bytes (s .args .bases .now) (s .args .c .0) (o .of-count .ensures) (good-counts (form s) (s .pre .0 .good))
     (i .ink .given .1)
@@ -171,11 +176,10 @@ begin-count-spec =
     part-read-start
     part-read-end
     read-requires
-    enum-known-last
+    enum-known-x
     enum-told-2
     refused-requires-3
     returns-3
-    refused-requires-4
-    returns-4
+    counting-requires
     begun-requires
-    returns-5)
+    returns-4)

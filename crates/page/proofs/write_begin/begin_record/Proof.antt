@@ -1,14 +1,13 @@
 -- Each return is one branch of the protocol's `carry`.
 use borrow.Author.Needs.{needs}
-use mathlib.Core.Path.{_≡_, refl, sym, ap, _∙_}
+use mathlib.Core.Path.{sym, ap, _∙_}
 use Prim.Native.Nat.{ℕ, _+_, _/_, _<_}
 use native.Mathlib.Omega.{arith}
 use lib.ListN.{length}
-use Rattle.radix.specs.Digits.{value}
-use Rattle.radix.specs.declared.VersionRead.{VersionRead}
+use Rattle.radix.specs.Digits.{product}
 use Rattle.protocol.specs.Form.{Form, formOf, versionBases}
-use Rattle.protocol.specs.Layout.{v1, look}
 use Rattle.protocol.specs.declared.Outcome.the-variants.{Nothing}
+use Rattle.protocol.specs.declared.Writer.{Writer}
 use Rattle.protocol.proofs.InRange.{in-range}
 use Rattle.checks.proofs.Forms.{good-versions}
 use Rattle.page.specs.declared.Answer.{Answer}
@@ -16,9 +15,7 @@ use Rattle.page.specs.declared.pen.Carried.{Carried}
 use Rattle.page.proofs.Writes.Ink.{ink-low, ink-high, ink-bytes}
 use Rattle.page.proofs.Writes.Writers.{answered}
 use Rattle.page.proofs.Writes.Pending.{version-ink-of}
-use Rattle.page.proofs.Writes.Reads.{read-version}
-use Rattle.page.proofs.Writes.RecordBegins.{record-absent, record-busy, record-unread}
-use Rattle.page.proofs.Writes.RecordBegins.{record-last, record-large, record-begins}
+use Rattle.page.proofs.Writes.RecordBegins.{record-absent, record-busy, record-large, record-begins}
 use Rattle.page.proofs.write_begin.begin_record.Statement.{statement}
 use Rattle.page.proofs.write_begin.begin_record.Tie as tie
 
@@ -70,40 +67,16 @@ returns-2 c =
     (there e) (k .if2 .taken))
     (s .pre .1)
 
-count-steps-requires : tie.Need-count-steps-requires
-count-steps-requires c κs = search needs
+last-version-requires : tie.Need-last-version-requires
+last-version-requires c κs =
+    let ready = enter-rest c .pre .0 in
+    (ready .good, ready .long, ready .allows)
 
-add-end : tie.Need-add-end
-add-end c = search needs
+ink-after-requires : tie.Need-ink-after-requires
+ink-after-requires c κs = enter-rest (c .before) .pre .0 .good
 
-sub-read : tie.Need-sub-read
-sub-read c = search needs
-
-part-read-start : tie.Need-part-read-start
-part-read-start c = search needs
-
-part-read-end : tie.Need-part-read-end
-part-read-end c = search needs
-
-read-requires : tie.Need-read-requires
-read-requires c κs = search needs
-
--- what the page says
-abbrev rest-at : tie.After-read → tie.Else2
-rest-at r = r .before .before .before
-
-said : (r : tie.After-read) →
-    let s = enter-rest (rest-at r) in
-    r .read .result
-    ≡ VersionRead.Is (record { 0 = value (versionBases (form s)) (look (s .args .page .now) (v1 (form s))) })
-said r =
-    let s = enter-rest (rest-at r) in
-    r .read .ensures
-    ∙ read-version (form s) (s .args .records .now) (s .args .page .now) (s .args .p .writer) (s .pre .0) _ _
-    (r .before .before .count-steps .ensures) refl
-
-enum-known-last : tie.Need-enum-known-last
-enum-known-last c = search needs
+enum-known-ink : tie.Need-enum-known-ink
+enum-known-ink c = search needs
 
 enum-told : tie.Need-enum-told
 enum-told c = search needs
@@ -113,95 +86,61 @@ refused-requires-3 c κs = search needs
 
 returns-3 : tie.Need-returns-3
 returns-3 c =
-    let r = c .before .before .before in
-    let k = rest-at r in
+    let o = c .before .before .before in
+    let l = o .before in
+    let k = l .before in
     let e = k .before .before in
     let s = enter-rest k in
     answered (form s) (s .args .page .now) _ (c .refused3 .ensures)
-    (record-unread (form s) (s .args .records .now) (s .args .page .now) (s .args .p .writer) (s .args .index) (s .pre .0)
-    (there e) (k .if2 .left) (said r) (c .before .enum-told .given .1))
-    (s .pre .1)
-
-refused-requires-4 : tie.Need-refused-requires-4
-refused-requires-4 c κs = search needs
-
-returns-4 : tie.Need-returns-4
-returns-4 c =
-    let t = c .before in
-    let l = t .before .before in
-    let r = l .before .before in
-    let k = rest-at r in
-    let e = k .before .before in
-    let s = enter-rest k in
-    answered (form s) (s .args .page .now) _ (c .refused4 .ensures)
-    (record-last (form s) (s .args .records .now) (s .args .page .now) (s .args .p .writer) (s .args .index) (s .pre .0)
-    (there e) (k .if2 .left) (said r) (l .last .given .1) (t .if3 .taken))
-    (s .pre .1)
-
-add-v : tie.Need-add-v
-add-v c = search needs
-
-of-version-requires : tie.Need-of-version-requires
-of-version-requires c κs = search needs
-
-enum-known-ink : tie.Need-enum-known-ink
-enum-known-ink c = search needs
-
-enum-told-2 : tie.Need-enum-told-2
-enum-told-2 c = search needs
-
-refused-requires-5 : tie.Need-refused-requires-5
-refused-requires-5 c κs = search needs
-
-returns-5 : tie.Need-returns-5
-returns-5 c =
-    let o = c .before .before .before in
-    let l = o .before .before .before in
-    let r = l .before .before in
-    let k = rest-at r in
-    let e = k .before .before in
-    let s = enter-rest k in
-    answered (form s) (s .args .page .now) _ (c .refused5 .ensures)
     (record-large (form s) (s .args .records .now) (s .args .page .now) (s .args .p .writer) (s .args .index) (s .pre .0)
-    (there e) (k .if2 .left) (said r) (l .last .given .1)
-    (ink-high (versionBases (form s)) _ (o .of-version .ensures) (c .before .enum-told2 .given .1)))
+    (there e) (k .if2 .left) (l .last-version .ensures)
+    (ink-high (versionBases (form s)) _ (o .ink-after .ensures) (c .before .enum-told .given .1)))
     (s .pre .1)
+
+-- the version has digits
+low : (i : tie.After-ink) →
+    let l = i .before .before .before in
+    l .last-version .result + 1 < product (versionBases (form (enter-rest (l .before))))
+low i = let o = i .before .before in ink-low _ _ (o .ink-after .ensures) (i .ink .given .1)
+
+recording-requires : tie.Need-recording-requires
+recording-requires c κs =
+    let i = c .before in
+    let s = enter-rest (i .before .before .before .before) in
+    omega (arith, low i, in-range (form s) (s .pre .0 .good) .version-fits)
 
 begun-requires : tie.Need-begun-requires
 begun-requires c κs = search needs
 
-abbrev begins : (last ink index : ℕ) → Carried
-begins last ink index = record {
-  answer = Answer.Done Nothing;
-  pen = record {
-    writer = record {
-      kind = 2;
-      count = record { 0 = 0 };
-      version = record { 0 = last + 1 };
-      index = index;
-      steps = 0;
-    };
-    known = 1;
-    ink = ink;
-  };
+abbrev begins : ℕ → Writer → Carried
+begins ink w = record { answer = Answer.Done Nothing; pen = record { writer = w; known = 1; ink = ink } }
+
+abbrev recording : (last index : ℕ) → Writer
+recording last index = record {
+  kind = 2;
+  count = record { 0 = 0 };
+  version = record { 0 = last + 1 };
+  index = index;
+  steps = 0;
 }
 
-returns-6 : tie.Need-returns-6
-returns-6 c =
-    let i = c .before .before in
+returns-4 : tie.Need-returns-4
+returns-4 c =
+    let w = c .before in
+    let i = w .before .before in
     let o = i .before .before in
-    let l = o .before .before .before in
-    let r = l .before .before in
-    let k = rest-at r in
+    let l = o .before in
+    let k = l .before in
     let e = k .before .before in
     let s = enter-rest k in
-    answered (form s) (s .args .page .now) (begins (l .last .given .0 .0 .0) (i .ink .given .0 .0) (s .args .index))
-    (c .begun .ensures ∙ ap (begins (l .last .given .0 .0 .0) (i .ink .given .0 .0)) (e .before .wide .ensures))
+    answered (form s) (s .args .page .now) _
+    (c .begun .ensures
+    ∙ ap (begins (i .ink .given .0 .0))
+    (w .recording .ensures ∙ ap (recording (l .last-version .result)) (e .before .wide .ensures)))
     (record-begins (form s) (s .args .records .now) (s .args .page .now) (s .args .p .writer) (s .args .index) (s .pre .0)
-    (there e) (k .if2 .left) (said r) (l .last .given .1)
-    (ink-low (versionBases (form s)) _ (o .of-version .ensures) (i .ink .given .1)))
+    (there e) (k .if2 .left) (l .last-version .ensures) (low i))
     (λ _ _.
-    ink-bytes (versionBases (form s)) _ (o .of-version .ensures) (good-versions (form s) (s .pre .0 .good))
+    ink-bytes (versionBases (form s)) _ (o .ink-after .ensures) (good-versions (form s) (s .pre .0 .good))
     (i .ink .given .1)
     ∙ sym (version-ink-of (form s) _ (λ h. omega (arith, h))))
 
@@ -215,23 +154,12 @@ begin-record-spec =
     returns
     refused-requires-2
     returns-2
-    count-steps-requires
-    add-end
-    sub-read
-    part-read-start
-    part-read-end
-    read-requires
-    enum-known-last
+    last-version-requires
+    ink-after-requires
+    enum-known-ink
     enum-told
     refused-requires-3
     returns-3
-    refused-requires-4
-    returns-4
-    add-v
-    of-version-requires
-    enum-known-ink
-    enum-told-2
-    refused-requires-5
-    returns-5
+    recording-requires
     begun-requires
-    returns-6)
+    returns-4)
