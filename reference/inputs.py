@@ -104,12 +104,13 @@ class Schedule:
         self.commands += command
 
     def some_count(self):
-        """A count that can be written: often one that carries, or one below such."""
-        now, top = self.page.count(), self.page.most_counts
+        """A count that can be written: often one that carries, or one below such, or one with another last digit alone."""
+        now, top, last = self.page.count(), self.page.most_counts, self.form.bases[-1]
         weight = product(self.form.bases[1 + self.rng.randrange(len(self.form.bases)):])
         carried = (now // weight + 1) * weight
-        wanted = pick(self.rng, (now, now + 1, carried, carried - 1, carried + self.rng.randrange(top - now),
-                                 between(self.rng, now, top - 1), now + self.rng.randrange(1 + (top - now) // 4)))
+        wanted = pick(self.rng, (now, now + 1, between(self.rng, now, now // last * last + last - 1), carried, carried - 1,
+                                 carried + self.rng.randrange(top - now), between(self.rng, now, top - 1),
+                                 now + self.rng.randrange(1 + weight)))
         return wanted if now <= wanted < top else min(now + 1, top - 1)
 
     def can_write_record(self):
@@ -129,8 +130,11 @@ class Schedule:
             self.add(read_count(reader))
 
     def burst(self, left):
-        """How many of the steps left to take at once: mostly one, sometimes just not all."""
-        return min(left, max(1, pick(self.rng, (1, 1, 1, 2, left - 1, left, between(self.rng, 1, left)))))
+        """How many of the steps left to take at once: mostly one, sometimes just not all. Sometimes one copy of a count is
+        left, for its last digit is the last stored or loaded of one copy and the first of the other: copies part there alone
+        if the other side stops in between."""
+        copy = len(self.form.bases)
+        return min(left, max(1, pick(self.rng, (1, 1, 1, 2, left - copy, left - 1, left, between(self.rng, 1, left)))))
 
     def writer_acts(self, records):
         if self.page.stores:
@@ -173,6 +177,12 @@ def count_race(rng):
     """Count reads meet count writes that carry."""
     form = some_form(rng, bases=[between(rng, 2, pick(rng, (2, 3, 10))) for _ in range(between(rng, 2, 5))], n=1)
     return Schedule(rng, form).grow(between(rng, 10, pick(rng, (60, 120, 400))), 0).bytes()
+
+
+def wide_race(rng):
+    """Count reads of the widest counts meet count writes: eight places of base 256."""
+    form = some_form(rng, bases=[256] * 8, n=1, readers=between(rng, 1, 3))
+    return Schedule(rng, form).grow(between(rng, 20, pick(rng, (60, 120, 400))), 0).bytes()
 
 
 def record_race(rng):
@@ -409,9 +419,9 @@ def at_limit(rng):
 
 
 # How many of 400 inputs are of each kind.
-KINDS = ((60, count_race), (60, record_race), (50, mixed), (8, large_form), (40, torn), (25, spent), (50, refused),
-         (25, two_refusals), (15, noise), (25, damaged), (12, bad_header), (10, cut_header), (5, large_stock), (8, tiny),
-         (6, dense), (1, at_limit))
+KINDS = ((50, count_race), (10, wide_race), (60, record_race), (50, mixed), (8, large_form), (40, torn), (25, spent),
+         (50, refused), (25, two_refusals), (15, noise), (25, damaged), (12, bad_header), (10, cut_header), (5, large_stock),
+         (8, tiny), (6, dense), (1, at_limit))
 
 
 def drawn(seed):

@@ -13,8 +13,8 @@ from inputs import (DOCUMENT_RUN, KINDS, WRITER, at_limit, cancel, header, kind,
 from runlist import MOST_INPUT, printed
 
 FOLDER = Path(__file__).resolve().parent.parent / "crates" / "cases" / "data"
-MOST_CASES, MOST_BYTES = 260, 1200000
-MOST_TEXT = 131071  # one less than the array that `cases` reads an input or an output into
+MOST_CASES, MOST_BYTES = 280, 1200000  # `cases` runs them all in every gate
+MOST_TEXT = 262143  # one less than the array that `cases` reads an input or an output into
 FIRST_SEED = 1000
 OF_EACH_KIND = 5
 
@@ -23,6 +23,8 @@ PAIR = header([10], 1, 10, 2, 2, 5, b"aa", [b"bb", b"cc"])  # two readers; a rec
 BIT = header([10], 1, 2, 1, 1, 5, b"a", [b"b"])  # versions 0 and 1 only
 TENS = header([10, 10, 10], readers=2, count=99)  # a count write or read takes 6 steps
 CLOCK = header([24, 60], count=11 * 60 + 57)  # hours and minutes; a count write or read takes 4 steps
+MIXED = [7, 10, 4]  # no two neighbours have the same largest digit
+WIDEST = [256] * 8
 LAST = 2**64 - 1
 
 COUNT_READ = read_count(0) + step(0) * 2  # whole, with one count place
@@ -41,10 +43,17 @@ def long_reads(spare, reader=0):
     return head + (read_count(reader) + step(reader) * 2) * ((MOST_INPUT - len(head)) // 6)
 
 
-def most_output():
+def record_output():
     """Record reads that print the longest lines for their length, up to the longest input."""
     head = header([2], 1, 256, 1, 16, 0, b"a", [b"z"]) + (write_record(0) + WRITER * 3) * 255
     return head + (read_record(15, 1) + step(15) * 3) * ((MOST_INPUT - len(head)) // 9)
+
+
+def most_output():
+    """Count reads between the copies of a write that stays unfinished, up to the longest input. Nothing prints more for its
+    length: 141,933 bytes."""
+    head = header([256], readers=16, count=254) + write_count(255) + WRITER
+    return head + (read_count(15) + step(15) * 2) * ((MOST_INPUT - len(head)) // 6)
 
 
 def longest_stock():
@@ -65,6 +74,26 @@ def all_readers():
     return out
 
 
+def parted(bases, a, b, readers=1, reader=0):
+    """A read gathers all of a, then c2 is written from a to b, then all of b is gathered."""
+    m = len(bases)
+    return (header(bases, readers=readers, count=a) + read_count(reader) + step(reader) * m + write_count(b) + WRITER * m
+            + step(reader) * m)
+
+
+def two_parted():
+    """Two reads at once: 148 becomes 151 between the copies of the first, and 151 becomes 153 between those of the second."""
+    return (header([10] * 3, readers=2, count=148) + read_count(0) + step(0) * 3 + write_count(151) + WRITER * 6
+            + read_count(1) + step(0) + step(1) * 3 + write_count(153) + WRITER * 3
+            + step(1) + step(0) + step(1) + step(0) + step(1))
+
+
+def all_lines():
+    """A record attempt is given up, a count read parts, a record is accepted, a count is shown; each by the same reader."""
+    return (PAIR + read_record(1, 1) + step(1) + write_record(0) + WRITER + step(1) * 3 + WRITER * 3 + read_count(1) + step(1)
+            + write_count(8) + WRITER + step(1) + WRITER + read_record(1, 1) + step(1) * 4 + read_count(1) + step(1) * 2)
+
+
 SMALL_HEADER_CUTS = [
     ("header-cut-%02d" % length, "a header of %d bytes, cut after %d" % (len(SMALL), length), 2, SMALL[:length])
     for length in range(1, len(SMALL))]
@@ -75,9 +104,10 @@ CUT_BODIES = [
     for command in (write_count(5), write_record(0), read_count(0), read_record(0, 1), step(1), cancel(1))
     for length in sorted({1, len(command) - 1})]
 
-# Name, reason, the refusal at its end as document 01 wants it, input.
+# Name, reason, what the documents want (the refusal at its end; or, if there is none, all lines before that), input.
 HAND_MADE = [
-    ("document-run", "the run printed in document 01", 0, DOCUMENT_RUN),
+    ("document-run", "the run printed in document 01, with both ends of its count read", ["R 0 2 1 6262", "B 0 4 7"],
+     DOCUMENT_RUN),
     ("empty", "empty input is 2", 2, b""),
 
     # The header's numbers at the ends of their ranges.
@@ -136,27 +166,31 @@ HAND_MADE = [
     ("longest-m-0", "65,536 bytes with a bad m", 1, bytes(MOST_INPUT)),
     ("longest-stock", "lent records up to the end of the longest input, and the last is written", 0, longest_stock()),
     ("longest-but-one", "65,535 bytes, all carried out", 0, longest_stock()[:-1]),
-    ("most-output", "the longest output for its input", 0, most_output()),
+    ("record-output", "the longest output of record reads for its input", 0, record_output()),
+    ("most-output", "count reads between two copies print the most, up to the longest input", 0, most_output()),
 
     # The starred edges, and what stands near them.
-    ("carry-000-100", "a = 000 and b = 100 show 100", 0, TENS + write_count(100) + WRITER * 5 + read_count(0) + step(0) * 6),
-    ("carry-099-199", "a = 099 and b = 199 show 100, not 199", 0,
+    ("carry-000-100", "a = 000 and b = 100 give 99 and 100", ["B 0 99 100"],
+     TENS + write_count(100) + WRITER * 5 + read_count(0) + step(0) * 6),
+    ("carry-099-199", "a = 099 and b = 199 have the high end 100, not 199", ["B 0 99 100"],
      TENS + read_count(0) + step(0) * 3 + write_count(100) + WRITER + step(0) * 3 + WRITER * 5),
-    ("clock-hour", "a = 11:57 and b = 12:04 show 12:00", 0,
+    ("clock-hour", "a = 11:57 and b = 12:04 give 11:59 and 12:00", ["B 0 719 720"],
      CLOCK + read_count(0) + step(0) * 2 + write_count(724) + WRITER * 4 + step(0) * 2),
-    ("clock-minute", "a = 11:57 and b = 11:59 show 11:59", 0,
+    ("clock-minute", "a = 11:57 and b = 11:59 part in the last place: both are whole", ["B 0 717 719"],
      CLOCK + read_count(0) + step(0) * 2 + write_count(719) + WRITER * 2 + step(0) * 2),
-    ("clock-equal", "equal copies show themselves", 0, CLOCK + read_count(0) + step(0) * 4),
-    ("digit-5-7", "with one place 5 and 7 show 7", 0,
+    ("clock-equal", "equal copies show themselves", ["C 0 717"], CLOCK + read_count(0) + step(0) * 4),
+    ("digit-5-7", "with one place 5 and 7 are the ends", ["B 0 5 7"],
      header(count=5) + read_count(0) + step(0) + write_count(7) + WRITER + step(0)),
     ("count-9", "9 has a digit of base 10", 0, header(count=9) + COUNT_READ),
     ("count-10", "10 has none, in the header", 4, header(count=10) + COUNT_READ),
     ("write-9", "9 has a digit of base 10, in a write", 0, header(count=8) + write_count(9) + WRITER * 2 + COUNT_READ),
     ("write-10", "10 has none, in a write", 4, header(count=8) + write_count(10) + WRITER * 2),
     ("last-count", "the last count of eight bases of 256", 0, header([256] * 8, count=LAST) + read_count(0) + step(0) * 16),
-    ("write-last-count", "the last count of eight bases of 256, written and met by a read", 0,
+    ("write-last-count", "the last count of eight bases of 256, written and met by a read",
+     ["B 0 %d %d" % (LAST - 255, LAST)],
      header([256] * 8, count=LAST - 255) + read_count(0) + step(0) * 8 + write_count(LAST) + WRITER * 16 + step(0) * 8),
-    ("carry-eight-places", "a carry from the last of eight places to the first, met in its midst", 0,
+    ("carry-eight-places", "a carry from the last of eight places to the first, met in its midst",
+     ["B 0 %d %d" % (2**56 - 1, 2**56)],
      header([256] * 8, count=2**56 - 1) + write_count(2**56) + WRITER + read_count(0) + step(0) * 16),
     ("over-eight-places", "the product of the bases is just below 2^64", 4,
      header([256] * 7 + [255], count=255 * 256**7 - 1) + write_count(255 * 256**7)),
@@ -171,8 +205,41 @@ HAND_MADE = [
      header(q=2, version_base=256, records=[b"b"]) + (write_record(0) + WRITER * 5) * 255 + read_record(0, 2)
      + write_record(0) + WRITER + step(0) * 5 + WRITER * 4 + step(0) * 5),
 
+    # Copies that part, and copies that do not though a write was met.
+    ("parted-first", "2:4:1 and 3:5:1 give 2:9:3 and 3:0:0; a neighbour's base would give another low end",
+     ["B 0 119 120"], parted(MIXED, 97, 141)),
+    ("parted-middle", "2:4:1 and 2:6:2 give 2:4:3 and 2:6:0; a neighbour's base would give another low end",
+     ["B 0 99 104"], parted(MIXED, 97, 106)),
+    ("parted-last", "2:4:1 and 2:4:3 part in the last place: no digit is filled", ["B 0 97 99"], parted(MIXED, 97, 99)),
+    ("parted-rising-bases", "bases 2, 16, 256: each largest digit is above that of the place before", ["B 0 4095 4096"],
+     parted([2, 16, 256], 0x307, 0x1208)),
+    ("parted-falling-bases", "bases 256, 16, 2: each largest digit is below that of the place before", ["B 0 127 288"],
+     parted([256, 16, 2], 3 * 32 + 5, 9 * 32 + 14)),
+    ("parted-one-of-2", "one place of the least base", ["B 0 0 1"], parted([2], 0, 1)),
+    ("parted-one-of-256", "one place of the largest base, by the last of sixteen readers", ["B 15 0 255"],
+     parted([256], 0, 255, 16, 15)),
+    ("parted-widest-first", "eight bases of 256 part in the first place", ["B 0 %d %d" % (0xff * 2**56 - 1, 0xff * 2**56)],
+     parted(WIDEST, 0xfe01020304050607, 0xff01020304050607)),
+    ("parted-widest-middle", "eight bases of 256 part in the fourth place",
+     ["B 0 %d %d" % (0xfffffffeffffffff, 0xffffffff00000000)], parted(WIDEST, 0xfffffffe12345678, 0xffffffff9abcdef0)),
+    ("parted-widest-last", "the largest ends that there are", ["B 0 %d %d" % (LAST - 1, LAST)],
+     parted(WIDEST, LAST - 1, LAST)),
+    ("parted-two-readers", "two reads at once, parted by two writes in two places", ["B 0 149 150", "B 1 151 153"],
+     two_parted()),
+    ("parted-then-equal", "a read whose copies part, and the same reader's next has equal ones", ["B 0 99 100", "C 0 150"],
+     parted([10] * 3, 99, 150) + WRITER * 3 + read_count(0) + step(0) * 6),
+    ("parted-again", "a write that stays unfinished parts the copies of each read", ["B 0 719 720"] * 2,
+     parted([24, 60], 717, 724) + read_count(0) + step(0) * 4),
+    ("met-equal-new", "a whole write after the first step of a read, and both copies are the new count", ["C 0 150"],
+     header([10] * 3, count=148) + read_count(0) + step(0) + write_count(150) + WRITER * 6 + step(0) * 5),
+    ("met-equal-old", "a write begun inside a read changes each digit after it was loaded, and both copies are the old count",
+     ["C 0 148"],
+     header([10] * 3, count=148) + read_count(0) + step(0) * 3 + write_count(199) + WRITER + step(0) * 2 + WRITER * 2
+     + step(0) + WRITER * 3),
+    ("all-lines", "a line of each sort, by one reader", ["G 1 1", "B 1 5 8", "R 1 1 1 6262", "C 1 8"], all_lines()),
+
     # Races.
-    ("trap-150-100", "of two reads that overlap, the later to finish shows less", 0,
+    ("trap-150-100", "of two reads that overlap, the later to finish has the lower ends", ["C 1 150", "B 0 99 100"],
      TENS + read_count(0) + step(0) * 3 + write_count(150) + WRITER * 6 + read_count(1) + step(1) * 6 + step(0) * 3),
     ("equal-count", "an equal count is a write too", 0, TENS + write_count(99) + WRITER * 6 + read_count(0) + step(0) * 6),
     ("announced-only", "a count that is announced and not begun is not shown", 0, TENS + write_count(500) + read_count(0)
@@ -295,16 +362,22 @@ def four(number):
     return number.to_bytes(4, "big")
 
 
+def fits(lines, wanted):
+    """Whether an output is what the table wants; of generated inputs it wants nothing."""
+    before, refusal = (wanted, 0) if isinstance(wanted, list) else (lines[:-1], wanted)
+    return wanted is None or (lines[:-1] == before and lines[-1].endswith(" %d" % refusal))
+
+
 def files():
     """The number of cases, and the files to be written, by name."""
     packed, index = [], []
-    for number, (name, reason, refusal, data) in enumerate(cases()):
+    for number, (name, reason, wanted, data) in enumerate(cases()):
         output = printed(data).encode()
-        assert refusal is None or output.endswith(b" %d\n" % refusal), name
+        lines = output.decode().split("\n")[:-1]
+        assert fits(lines, wanted), name
         assert max(len(data), len(output)) <= MOST_TEXT, name
         packed += [four(len(data)), data, four(len(output)), output]
-        last = output.decode().split("\n")[-2]
-        index.append("%03d | %-24s | %s | %d | %s\n" % (number, name, reason, len(data), last))
+        index.append("%03d | %-24s | %s | %d | %s\n" % (number, name, reason, len(data), lines[-1]))
     names = [line.split(" | ")[1] for line in index]
     assert len(set(names)) == len(names) <= MOST_CASES, "names or number of cases"
     result = {"cases.bin": four(len(names)) + b"".join(packed), "INDEX.txt": "".join(index).encode()}

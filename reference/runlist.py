@@ -1,6 +1,6 @@
 #!/usr/bin/env python3
 """Print the run of a schedule, as the program `runlist` must. This is a second implementation in plain Python, written from
-document 01 alone; it shares nothing with the proved code, so that a fault in one is seen against the other. It reads
+documents 01 and 02 alone; it shares nothing with the proved code, so that a fault in one is seen against the other. It reads
 standard input; `printed` does the same for bytes in memory."""
 
 import sys
@@ -52,14 +52,18 @@ def digits_of(x, bases):
     return digits[::-1]
 
 
-def shown_count(a, b, bases):
-    """What a count read shows that gathered the digits a from c1 and b from c2."""
+def ends(a, b, bases):
+    """What a count read tells that gathered the digits a from c1 and b from c2: their count if they are equal, and else the
+    low end, the last count that begins as a does up to where they part, and the high end, the first that begins as b does."""
     p = 0
     while p < len(bases) and a[p] == b[p]:
         p += 1
-    if p < len(bases):
-        need(a[p] < b[p], 10)
-    return value(b[:p + 1] + [0] * len(b[p + 1:]), bases)
+    if p == len(bases):
+        return [value(a, bases)]
+    need(a[p] < b[p], 10)
+    after = bases[p + 1:]
+    low, high = a[:p + 1] + [base - 1 for base in after], b[:p + 1] + [0] * len(after)
+    return [value(low, bases), value(high, bases)]
 
 
 class Read:
@@ -159,9 +163,9 @@ class Page:
         if read.loads:
             return None
         if not read.allowed:
-            line = "C %d %d" % (reader, shown_count(read.a, read.b, self.form.bases))
+            told = ends(read.a, read.b, self.form.bases)
             self.reads[reader] = None
-            return line
+            return " ".join(map(str, ["C" if len(told) == 1 else "B", reader] + told))
         read.finished += 1
         if read.v1 == read.v2:
             self.reads[reader] = None

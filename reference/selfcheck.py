@@ -1,8 +1,8 @@
 #!/usr/bin/env python3
-"""Check the reference itself: against the run, the edges and the trap of document 01; against two small oracles that know no
-page but only which store came last before which load, over all interleavings of small forms; against the history that the
-commands alone tell, over generated inputs; and that the generator reaches every refusal and every sort of ending. Prints
-what was checked; the exit status is 1 if anything fails."""
+"""Check the reference itself: against the run, the edges and the trap of document 01, with both ends as document 02 wants
+them; against two small oracles that know no page but only which store came last before which load, over all interleavings of
+small forms; against the history that the commands alone tell, over generated inputs; and that the generator reaches every
+refusal and every sort of ending. Prints what was checked; the exit status is 1 if anything fails."""
 
 import sys
 from collections import Counter
@@ -12,7 +12,7 @@ from pathlib import Path
 import inputs
 import runlist
 from inputs import DOCUMENT_RUN, WRITER, header, read_count, read_record, step, write_count, write_record
-from runlist import BODY_LENGTH, Refusal, digits_of, opened, printed, product, run, shown_count
+from runlist import BODY_LENGTH, Refusal, digits_of, opened, printed, product, run
 
 EXAMPLES = Path(__file__).resolve().parent.parent / "examples"
 failures = 0
@@ -30,31 +30,36 @@ def same(found, expected, what):
     check(found == expected, "%s: %r, not %r" % (what, found, expected))
 
 
-# Document 01.
+# Documents 01 and 02.
+
+
+def read_of(bases, a, b):
+    """What a count read prints, and how it ends, on a page whose copies hold a and b. No schedule brings them to cross."""
+    page, _ = opened(header(bases))
+    page.c1[:], page.c2[:] = a, b
+    return run(page, read_count(0) + step(0) * 2 * len(bases))
 
 
 def document():
-    same(printed(DOCUMENT_RUN), "R 0 2 1 6262\nC 0 7\nEND 20 0\n", "the printed run")
+    same(printed(DOCUMENT_RUN), "R 0 2 1 6262\nB 0 4 7\nEND 20 0\n", "the printed run")
     same(printed(b""), "END 0 2\n", "empty input")
     trap = header([10] * 3, readers=2, count=99) + (
         read_count(0) + step(0) * 3 + write_count(150) + WRITER * 6 + read_count(1) + step(1) * 6 + step(0) * 3)
-    same(printed(trap), "C 1 150\nC 0 100\nEND 21 0\n", "the trap of two reads that overlap")
-    edges = (([10] * 3, [0, 0, 0], [1, 0, 0], 100), ([10] * 3, [0, 9, 9], [1, 9, 9], 100),
-             ([24, 60], [11, 57], [12, 4], 720), ([24, 60], [11, 57], [11, 59], 719), ([24, 60], [11, 57], [11, 57], 717),
-             ([24, 60], [12, 4], [11, 57], None), ([10], [5], [7], 7))
-    for bases, a, b, expected in edges:
-        try:
-            found = shown_count(a, b, bases)
-        except Refusal as refusal:
-            found = None if refusal.number == 10 else refusal.number
-        same(found, expected, "edge a = %s, b = %s" % (a, b))
+    same(printed(trap), "C 1 150\nB 0 99 100\nEND 21 0\n", "the trap of two reads that overlap")
+    edges = (([10] * 3, [0, 0, 0], [1, 0, 0], "B 0 99 100"), ([10] * 3, [0, 9, 9], [1, 9, 9], "B 0 99 100"),
+             ([24, 60], [11, 57], [12, 4], "B 0 719 720"), ([24, 60], [11, 57], [11, 59], "B 0 717 719"),
+             ([24, 60], [11, 57], [11, 57], "C 0 717"), ([24, 60], [12, 4], [11, 57], None), ([10], [5], [7], "B 0 5 7"))
+    for bases, a, b, line in edges:
+        steps = 2 * len(bases)
+        expected = ([line], 1 + steps, 0) if line else ([], steps, 10)
+        same(read_of(bases, a, b), expected, "edge a = %s, b = %s" % (a, b))
     same(digits_of(9, [10]), [9], "digit of 9")
     same(printed(header(count=10)), "END 0 4\n", "count 10 with base 10")
     same(digits_of(2**64 - 1, [256] * 8), [255] * 8, "digits of the last count")
     top = header(records=[b"x"]) + (write_record(0) + WRITER * 3) * 9
     same(printed(top), "END 36 0\n", "version 9 with base 10")
     same(printed(top + write_record(0)), "END 36 9\n", "version 10 with base 10")
-    print("document 01: the printed run, the empty input, the trap, %d edges of the comparison, 5 of the numbers" % len(edges))
+    print("documents: the printed run, the empty input, the trap, %d edges of the comparison, 5 of the numbers" % len(edges))
 
 
 # Oracles. Write j = 1, 2, ... takes the writer's steps from (j - 1) * w + 1 to j * w. What a load finds after s steps of the
@@ -66,20 +71,39 @@ def writes_stored(s, k, w):
     return (s - k) // w + 1
 
 
-def count_oracle(bases, counts, times):
-    """What a read shows whose loads come after times[0], times[1], ... steps of the writer, by whole numbers."""
+def told(found, bases):
+    """What a count read must print after its reader, if its loads found digits of the counts `found`, in this order; and the
+    place in which a and b part, or None. It is told by whole numbers: `weight` counts begin alike up to a place, and of
+    those that begin as a does the low end is the last, of those that begin as b does the high end is the first."""
     m = len(bases)
-    a = b = 0
-    for i in range(m):
-        digit = [digits_of(count, bases)[i] for count in counts]
-        weight = product(bases[i + 1:])
-        a += weight * digit[writes_stored(times[i], 2 * m - i, 2 * m)]
-        b += weight * digit[writes_stored(times[2 * m - 1 - i], i + 1, 2 * m)]
-    for i in range(m):
-        weight = product(bases[i + 1:])
+    weights = [product(bases[i + 1:]) for i in range(m)]
+    a, b = (sum(count // weight % base * weight for count, weight, base in zip(counts, weights, bases))
+            for counts in (found[:m], found[:m - 1:-1]))
+    for place, weight in enumerate(weights):
         if a // weight != b // weight:
-            return b // weight * weight
-    return b
+            return [(a // weight + 1) * weight - 1, b // weight * weight], place
+    return [a], None
+
+
+def count_oracle(bases, counts, times):
+    """What a read must tell whose loads come after times[0], times[1], ... steps of the writer."""
+    w = 2 * len(bases)  # a read loads in the reverse order of stores
+    return told([counts[writes_stored(s, w - i, w)] for i, s in enumerate(times)], bases)
+
+
+def count_line(reader, numbers):
+    return "%s %d %s" % ("C" if len(numbers) == 1 else "B", reader, " ".join(map(str, numbers)))
+
+
+def spans(line, begun, what):
+    """Check what the line of a finished count read tells against the counts from the last whole before its first step to the
+    last begun before its last step. This needs no digits: a count shown is one of them, and two ends lie among them."""
+    sort, numbers = (line or "nothing")[0], [int(number) for number in (line or "").split()[2:]]
+    check(all(begun[0] <= number <= begun[-1] for number in numbers), "%s: %s leaves the span" % (what, line))
+    if sort == "C":
+        check(len(numbers) == 1 and numbers[0] in begun, "%s: %s shows what nobody began to write" % (what, line))
+    else:
+        check(sort == "B" and len(numbers) == 2 and numbers[0] < numbers[1], "%s: %s has no two ends" % (what, line))
 
 
 def schedule(writes, w, times):
@@ -96,20 +120,22 @@ def schedule(writes, w, times):
 
 def count_reads(bases, writes):
     """All interleavings of a count read with so many count writes, for all counts."""
-    w, runs, between_copies = 2 * len(bases), 0, 0
+    w, runs, ended = 2 * len(bases), 0, Counter()
     for counts in combinations_with_replacement(range(product(bases)), writes + 1):
         commands = [write_count(count) for count in counts[1:]]
         for times in combinations_with_replacement(range(writes * w + 1), w):
             out = printed(header(bases, count=counts[0]) + read_count(0) + schedule(commands, w, times))
-            shown = int(out.split()[2])
             last_whole, last_begun = times[0] // w, (times[-1] + w - 1) // w
             what = "bases %s, counts %s, loads after %s" % (bases, counts, times)
-            same(out, "C 0 %d\nEND %d 0\n" % (count_oracle(bases, counts, times), 1 + writes * (w + 1) + w), what)
-            check(counts[last_whole] <= shown <= counts[last_begun], what + " leaves the span")
+            numbers, place = count_oracle(bases, counts, times)
+            same(out, "%s\nEND %d 0\n" % (count_line(0, numbers), 1 + writes * (w + 1) + w), what)
+            spans(out.split("\n")[0], counts[last_whole:last_begun + 1], what)
             runs += 1
-            between_copies += shown not in counts
-    print("count reads, bases %s, %d writes: %d runs against oracle and span; %d show a count that no write had" % (
-        bases, writes, runs, between_copies))
+            ended["met" if place is None and last_whole < last_begun else place] += 1
+    check(all(ended[end] for end in ["met", None] + list(range(len(bases)))), "bases %s: some ends are not reached" % bases)
+    print("count reads, bases %s, %d writes: %d runs against oracle and span; copies equal %d, and %d more that met a write; "
+          "parted in place %s" % (bases, writes, runs, ended[None], ended["met"],
+                                  ", ".join("%d: %d" % (place, ended[place]) for place in range(len(bases)))))
 
 
 def record_reads(q, version_base, n, writes, first, allowed):
@@ -148,10 +174,15 @@ def record_reads(q, version_base, n, writes, first, allowed):
 
 
 class Written:
-    """What a write put on the page, and the numbers of the commands that were its first and last step, once taken."""
+    """What a write puts on the page, and the numbers of the commands that were its steps so far."""
 
-    def __init__(self, what, first=None, last=None):
-        self.what, self.first, self.last = what, first, last
+    def __init__(self, what, steps=()):
+        self.what, self.steps = what, list(steps)
+
+
+def last_stored(writes, k, before):
+    """Which of the writes is the last whose k-th step was taken before a command."""
+    return next(i for i in reversed(range(len(writes))) if len(writes[i].steps) >= k and writes[i].steps[k - 1] < before)
 
 
 def history(data, ends):
@@ -162,7 +193,8 @@ def history(data, ends):
         return
     form, done = page.form, int(printed(data).split()[-2])
     whole = {1: 2 * len(form.bases), 2: 2 * form.q + form.n}
-    writes = {1: [Written(page.count(), 0, 0)], 2: [Written(bytes(page.record), 0, 0)]}  # the opening is number 0
+    # The opening is number 0, and stored all of both before the first command.
+    writes = {1: [Written(page.count(), [0] * whole[1])], 2: [Written(bytes(page.record), [0] * whole[2])]}
     reads = {}
     for index in range(1, done + 1):
         kind, body = data[at], data[at + 1:at + 1 + BODY_LENGTH[data[at]]]
@@ -171,13 +203,9 @@ def history(data, ends):
         if kind in (1, 2):
             place = runlist.number(body)
             writes[kind].append(Written(place if kind == 1 else page.records[place]))
-            write, left = writes[kind][-1], whole[kind]
+            write = writes[kind][-1]
         elif kind == 3:
-            if write.first is None:
-                write.first = index
-            left -= 1
-            if left == 0:
-                write.last = index
+            write.steps.append(index)
         elif kind in (4, 5):
             reads[body[0]] = (kind - 3, body[-1], [])
         elif kind == 7:
@@ -190,14 +218,15 @@ def history(data, ends):
             if len(steps) % whole[sort] == 0:
                 first = steps[-whole[sort]]
                 used = len(steps) // whole[sort]
-                last_whole = max(i for i, w in enumerate(writes[sort]) if w.last is not None and w.last < first)
-                last_begun = max(i for i, w in enumerate(writes[sort]) if w.first is not None and w.first < index)
+                last_whole, last_begun = last_stored(writes[sort], whole[sort], first), last_stored(writes[sort], 1, index)
                 expected = "G %d %d" % (body[0], used) if used == allowed else None
                 if sort == 1:
-                    count = int(line.split()[2])
-                    check(writes[1][last_whole].what <= count <= writes[1][last_begun].what, "command %d: span" % index)
-                    expected = "C %d %d" % (body[0], count)
-                    ends["shown in a race" if last_whole < last_begun else "shown at rest"] += 1
+                    counts = [w.what for w in writes[1]]
+                    found = [counts[last_stored(writes[1], whole[1] - i, s)] for i, s in enumerate(steps)]
+                    numbers, place = told(found, form.bases)
+                    spans(line, counts[last_whole:last_begun + 1], "command %d" % index)
+                    expected = count_line(body[0], numbers)
+                    count_end(ends, form.bases, place, last_whole < last_begun)
                 elif line is not None and line[0] == "R":
                     version = int(line.split()[3])
                     check(last_whole <= version <= last_begun, "command %d: record out of its time" % index)
@@ -214,6 +243,20 @@ def history(data, ends):
             same(line, expected, "command %d" % index)
 
 
+def count_end(ends, bases, place, met):
+    """Count in what way a count read ended: at which place its copies part, and on what bases."""
+    if place is None:
+        ends["shown in a race" if met else "shown at rest"] += 1
+        return
+    last = len(bases) - 1
+    where = "only" if last == 0 else "first" if place == 0 else "last" if place == last else "middle"
+    ends["parted in the %s place" % where] += 1
+    if len(set(bases[place:])) > 1:
+        ends["parted, mixed bases after"] += 1
+    if bases == [256] * 8:
+        ends["parted, widest counts"] += 1
+
+
 def generated(seeds):
     ends, refusals = Counter(), Counter()
     for seed in range(seeds):
@@ -223,7 +266,9 @@ def generated(seeds):
         refusals[int(printed(data).split()[-1])] += 1
     for refusal in (0, 1, 2, 4, 5, 6, 7, 8, 9, 11):
         check(refusals[refusal] >= seeds // 100, "few inputs end with refusal %d" % refusal)
-    for end in ("shown in a race", "accepted after a retry", "given up", "cancelled"):
+    for end in ("shown in a race", "parted in the only place", "parted in the first place", "parted in the middle place",
+                "parted in the last place", "parted, mixed bases after", "parted, widest counts", "accepted after a retry",
+                "given up", "cancelled"):
         check(ends[end] >= seeds // 20, "few reads are %s" % end)
     check(not refusals[3] and not refusals[10] and not refusals[12], "3, 10 and 12 cannot be reached")
     print("%d generated inputs against their histories: %s" % (seeds, ", ".join("%s %d" % e for e in sorted(ends.items()))))
@@ -243,7 +288,7 @@ def main():
     document()
     examples()
     count_reads([2, 3], 2)
-    count_reads([2, 2, 2], 1)
+    count_reads([2, 3, 2], 1)
     record_reads(1, 10, 2, 2, 0, 2)
     record_reads(2, 2, 1, 3, 1, 1)  # the write that carries the version from 01 to 10, and the one after it
     record_reads(2, 2, 1, 2, 1, 2)

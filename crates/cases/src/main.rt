@@ -34,7 +34,7 @@ fn text(recorded: i32, all: &mut [u8]) -> usize
 }
 
 fn copy_input(recorded: i32) {
-    let mut all = [0u8; 131072];
+    let mut all = [0u8; 262144];
     let n = text(recorded, &mut all);
     let to = os::open_overwrite(b"input");
     io::write_all(to, &all[..n]);
@@ -50,8 +50,8 @@ fn print() {
 }
 
 // Does b begin with a?
-fn begins(a: &[u8], b: &[u8; 131072]) -> bool
-    requires { ⌜ length (now a) ≤ 131072 ⌝ }
+fn begins(a: &[u8], b: &[u8; 262144]) -> bool
+    requires { ⌜ length (now a) ≤ 262144 ⌝ }
 {
     let mut i: usize = 0;
     while i < a.len() {
@@ -65,9 +65,9 @@ fn begins(a: &[u8], b: &[u8; 131072]) -> bool
 
 // Is the recorded output all that was printed?
 fn same_output(recorded: i32) -> bool {
-    let mut wanted = [0u8; 131072];
+    let mut wanted = [0u8; 262144];
     let n = text(recorded, &mut wanted);
-    let mut printed = [0u8; 131072];
+    let mut printed = [0u8; 262144];
     let from = os::open_read(b"output");
     let got = io::read_full(from, &mut printed);
     libc::close(from);

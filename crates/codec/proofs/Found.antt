@@ -5,7 +5,7 @@ use Prim.Native.Nat.{ℕ}
 use lib.ListN.{getD}
 use borrow.Author.Tests.{ne-eqb}
 use Rattle.radix.specs.Digits.{ofBytes}
-use Rattle.protocol.specs.declared.Outcome.the-variants.{Nothing, Shown, Accepted, GaveUp}
+use Rattle.protocol.specs.declared.Outcome.the-variants.{Nothing, Shown, Accepted, GaveUp, Between}
 use Rattle.codec.specs.Entry.{outcomeIn}
 use Rattle.codec.proofs.Bytes.{part}
 
@@ -25,7 +25,13 @@ module _ (l : List ℕ) where
   unfolding outcomeIn
   found-gave e = rw e
 
-  pub found-nothing :
-      (getD l 0 0 ≡ 1 → ⊥) → (getD l 0 0 ≡ 2 → ⊥) → (getD l 0 0 ≡ 3 → ⊥) → Nothing ≡ outcomeIn l
+  pub found-between :
+      getD l 0 0 ≡ 4 → {a b : ℕ} → a ≡ ofBytes (part l 2 8) → b ≡ ofBytes (part l 10 8) →
+      Between (getD l 1 0) (record { 0 = a }) (record { 0 = b }) ≡ outcomeIn l
   unfolding outcomeIn
-  found-nothing n1 n2 n3 = rw (ne-eqb _ 1 n1, ne-eqb _ 2 n2, ne-eqb _ 3 n3)
+  found-between e f g = rw (f, g, e)
+
+  pub found-nothing :
+      (getD l 0 0 ≡ 1 → ⊥) → (getD l 0 0 ≡ 2 → ⊥) → (getD l 0 0 ≡ 3 → ⊥) → (getD l 0 0 ≡ 4 → ⊥) → Nothing ≡ outcomeIn l
+  unfolding outcomeIn
+  found-nothing n1 n2 n3 n4 = rw (ne-eqb _ 1 n1, ne-eqb _ 2 n2, ne-eqb _ 3 n3, ne-eqb _ 4 n4)

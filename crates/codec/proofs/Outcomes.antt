@@ -1,17 +1,18 @@
 -- The entry of each outcome: how long it is, and that it is put byte by byte.
-use mathlib.Core.Path.{_≡_, sym, ap, _∙_}
-use mathlib.Core.List.{List, []}
+use mathlib.Core.Path.{_≡_, sym, ap, ap₂, _∙_}
+use mathlib.Core.List.{List, [], _++_}
 use Prim.Native.Nat.{ℕ, _+_, _≤_}
 use native.Mathlib.Omega.{arith}
-use lib.ListN.{length, set}
+use lib.ListN.{length, set, length-set}
 use Rattle.radix.specs.Digits.{bytes}
 use Rattle.radix.specs.declared.Count.{Count}
 use Rattle.radix.specs.declared.Version.{Version}
+use Rattle.radix.proofs.Theorems.RoundTrip.{length-bytes}
 use Rattle.protocol.specs.Outcome.{entry}
 use Rattle.protocol.specs.declared.Outcome.{Outcome}
-use Rattle.protocol.specs.declared.Outcome.the-variants.{Nothing, Shown, Accepted, GaveUp}
+use Rattle.protocol.specs.declared.Outcome.the-variants.{Nothing, Shown, Accepted, GaveUp, Between}
 use Rattle.codec.specs.Entry.{overlay}
-use Rattle.codec.proofs.Overlays.{overlay-none, after-two, after-three}
+use Rattle.codec.proofs.Overlays.{overlay-none, after-two, after-three, overlay-on}
 
 module _ {o : Outcome} where
   pub size-nothing : o ≡ Nothing → length (entry o) ≡ 0
@@ -30,6 +31,10 @@ module _ {o : Outcome} where
     pub size-gave : {k : ℕ} → o ≡ GaveUp r k → length (entry o) ≡ 3
     unfolding entry
     size-gave e = ap (λ o. length (entry o)) e
+
+    pub size-between : {a b : Count} → o ≡ Between r a b → length (entry o) ≡ 18
+    unfolding entry
+    size-between e = ap (λ o. length (entry o)) e
 
 module _ (l : List ℕ) (at : ℕ) {o : Outcome} where
   pub fill-nothing : o ≡ Nothing → l ≡ overlay l at (entry o)
@@ -53,3 +58,14 @@ module _ (l : List ℕ) (at : ℕ) {o : Outcome} where
     fill-gave {k} e h =
         sym (overlay-none (set (set (set l at 3) (at + 1) r) (at + 2) k) (at + 3)) ∙ after-three l at 3 r k [] h
         ∙ rw e
+
+    pub fill-between : {a b : Count} → o ≡ Between r a b → at + 18 ≤ length l → {t : List ℕ}
+        → t ≡ overlay (set (set l at 4) (at + 1) r) (at + 2) (bytes 8 (a .0))
+        → overlay t (at + 10) (bytes 8 (b .0)) ≡ overlay l at (entry o)
+    unfolding entry
+    fill-between {a} {b} e h first =
+        let s = set (set l at 4) (at + 1) r in
+        let place : at + 10 ≡ at + 2 + length (bytes 8 (a .0)) = omega (arith, length-bytes 8 (a .0)) in
+        ap₂ (λ (t : List ℕ) p. overlay t p (bytes 8 (b .0))) first place
+        ∙ overlay-on s (at + 2) (bytes 8 (a .0)) (simp length-set (omega arith)) (bytes 8 (b .0))
+        ∙ after-two l at 4 r (bytes 8 (a .0) ++ bytes 8 (b .0)) (omega arith) ∙ rw e

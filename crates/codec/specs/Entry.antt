@@ -7,7 +7,7 @@ use lib.ListN.{length, take, drop, getD}
 use Rattle.radix.specs.Digits.{ofBytes}
 use Rattle.protocol.specs.Outcome.{entry}
 use Rattle.protocol.specs.declared.Outcome.{Outcome}
-use Rattle.protocol.specs.declared.Outcome.the-variants.{Nothing, Shown, Accepted, GaveUp}
+use Rattle.protocol.specs.declared.Outcome.the-variants.{Nothing, Shown, Accepted, GaveUp, Between}
 
 abbrev pub overlay : List ℕ → ℕ → List ℕ → List ℕ
 overlay l at bytes = take at l ++ bytes ++ drop (at + length bytes) l
@@ -35,7 +35,10 @@ unfoldable pub outcomeIn : List ℕ → Outcome
 outcomeIn l =
     cond (eqb (getD l 0 0) 1) (Shown (getD l 1 0) (record { 0 = ofBytes (take 8 (drop 2 l)) }))
     (cond (eqb (getD l 0 0) 2) (Accepted (getD l 1 0) (getD l 2 0) (record { 0 = ofBytes (take 4 (drop 3 l)) }))
-    (cond (eqb (getD l 0 0) 3) (GaveUp (getD l 1 0) (getD l 2 0)) Nothing))
+    (cond (eqb (getD l 0 0) 3) (GaveUp (getD l 1 0) (getD l 2 0))
+    (cond (eqb (getD l 0 0) 4)
+    (Between (getD l 1 0) (record { 0 = ofBytes (take 8 (drop 2 l)) }) (record { 0 = ofBytes (take 8 (drop 10 l)) }))
+    Nothing)))
 
 -- an outcome's numbers fit into the bytes of its entry
 abbrev pub Fits : Outcome → Type 0
@@ -43,3 +46,4 @@ Fits Nothing = Unit {0}
 Fits (Shown r c) = c .0 < 2 ^ 64
 Fits (Accepted r k v) = v .0 < 2 ^ 32
 Fits (GaveUp r k) = Unit {0}
+Fits (Between r low high) = (low .0 < 2 ^ 64) × (high .0 < 2 ^ 64)

@@ -9,6 +9,9 @@ use protocol::Outcome;
 use radix::Count;
 use radix::Version;
 
+// A log with so many bytes free has room for any entry.
+pub const LONGEST: usize = 18;
+
 // How many bytes the entry of an outcome takes.
 pub fn size(o: Outcome) -> usize
     ensures { λ r. ⌜ r ≡ length (entryOf o) ⌝ }
@@ -28,6 +31,11 @@ pub fn size(o: Outcome) -> usize
             reader: _,
             attempts: _,
         } => 3,
+        Outcome::Between {
+            reader: _,
+            low: _,
+            high: _,
+        } => 18,
     }
 }
 
@@ -58,6 +66,12 @@ fn fill(log: &mut [u8], at: usize, o: Outcome)
             log[at + 1] = reader;
             log[at + 2] = attempts;
         }
+        Outcome::Between { reader, low, high } => {
+            log[at] = 4;
+            log[at + 1] = reader;
+            numbers::put_number(log, at + 2, 8, low.0);
+            numbers::put_number(log, at + 10, 8, high.0);
+        }
     }
 }
 
@@ -87,8 +101,8 @@ fn half(x: u64) -> u32
     x as u32
 }
 
-// The outcome whose entry a log of ten bytes begins with.
-pub fn outcome(log: [u8; 10]) -> Outcome
+// The outcome whose entry a log begins with.
+pub fn outcome(log: [u8; LONGEST]) -> Outcome
     ensures { λ r. ⌜ r ≡ outcomeIn log ⌝ }
 {
     let kind = log[0];
@@ -109,6 +123,13 @@ pub fn outcome(log: [u8; 10]) -> Outcome
         return Outcome::GaveUp {
             reader: log[1],
             attempts: log[2],
+        };
+    }
+    if kind == 4 {
+        return Outcome::Between {
+            reader: log[1],
+            low: Count(numbers::number_at(&log, 2, 8)),
+            high: Count(numbers::number_at(&log, 10, 8)),
         };
     }
     Outcome::Nothing

@@ -7,6 +7,7 @@ mod pasting;
 
 pub use commands::decode;
 pub use commands::encode;
+pub use entries::LONGEST;
 pub use entries::outcome;
 pub use entries::put;
 pub use entries::size;

@@ -19,7 +19,7 @@ pub(crate) struct Lent {
     pub(crate) buffers: [u8; 4400],
     pub(crate) wide: usize,
     pub(crate) records: usize,
-    pub(crate) log: [u8; 24],
+    pub(crate) log: [u8; 32],
     pub(crate) room: usize,
     pub(crate) done: usize,
     pub(crate) written: usize,
@@ -104,7 +104,7 @@ fn of_format(n: Numbers) -> Lent {
         buffers: [7; 4400],
         wide: product(readers, size),
         records: size + size,
-        log: [7; 24],
+        log: [7; 32],
         room: 0,
         done: 0,
         written: 0,
@@ -166,7 +166,7 @@ pub(crate) fn run(before: Lent, commands: &[u8]) -> Lent {
     let m = bases_within(l.places, &bases);
     let records = *b"bbccdd";
     let lent = within(l.records, &records);
-    let mut log = [7u8; 24];
+    let mut log = [7u8; 32];
     let room = within(l.room, &log);
     let r = packed::run(
         &mut states[..kept],

@@ -37,15 +37,17 @@ pub(crate) fn order() {
 }
 
 // What the log has room for: a byte too few, and in the later run no byte too many. An entry has ten bytes for a count
-// shown, seven for a record accepted, three for giving up, none if an attempt is left. A step that was refused reads its
-// digit anew in the later run.
+// shown, eighteen for copies that part, seven for a record accepted, three for giving up, none if an attempt is left. A
+// step that was refused reads its digit anew in the later run: so equal copies can part there, and need eighteen then.
 pub(crate) fn room() {
     each(
         b"\
         a count shown, room for 9:|l 9;r 4 0 6 0 6 0 6 0 6 0 6 0 6 0\n\
         \x20 then:+l 10;r 6 0\n\
         a count shown, written over before the later run:|r 4 0 6 0 6 0 6 0 6 0 6 0 6 0\n\
-        \x20 then:+l 11;r 1 0 0 0 0 0 0 0 150 3 3 3 3 3 3 6 0\n\
+        \x20 then:+l 10;r 1 0 0 0 0 0 0 0 150 3 3 3 3 3 3 6 0\n\
+        \x20 then:+l 17;r 6 0\n\
+        \x20 then:+l 19;r 6 0\n\
         a record accepted, room for 6:|l 6;r 5 1 1 6 1 6 1 6 1 6 1\n\
         \x20 then:+l 7;r 6 1\n\
         given up, room for 2:|l 2;r 5 0 1 2 0 0 6 0 6 0 6 0 3 6 0\n\
@@ -56,13 +58,13 @@ pub(crate) fn room() {
     );
 }
 
-// Document 01's trap: reader 0 has gathered 099, a write of 150 is carried out, reader 1 shows 150, then reader 0 shows
-// 100.
+// Document 01's trap: reader 0 has gathered 099, a write of 150 is carried out, reader 1 shows 150, then reader 0 ends
+// between 99 and 100.
 pub(crate) fn overtaken() {
     each(
         b"\
         099 gathered by reader 0, 150 written:|r 4 0 6 0 6 0 6 0 1 0 0 0 0 0 0 0 150 3 3 3 3 3 3\n\
-        \x20 then:+l 21;r 4 1 6 1 6 1 6 1 6 1 6 1 6 1 6 0 6 0 6 0\n\
+        \x20 then:+l 29;r 4 1 6 1 6 1 6 1 6 1 6 1 6 1 6 0 6 0 6 0\n\
         ",
     );
 }

@@ -4,6 +4,7 @@ ghost use mathlib.Core.List.{List};
 ghost use Prim.Native.Nat.{ℕ, _≤_};
 ghost use lib.ListN.{length};
 ghost use Rattle.protocol.specs.Form.{formOf};
+ghost use Rattle.protocol.specs.Outcome.{longest};
 ghost use Rattle.page.specs.Carry.{lent};
 ghost use Rattle.page.specs.Calls.{steppedLent, stepLent, CarriesStep};
 use page::Stepped;
@@ -27,11 +28,11 @@ pub fn step(
     ensures { λ r. ⌜ steppedLent r (now (page .exit)) (now (readers .exit)) (now (buffers .exit))
         ≡ stepLent (formOf (now (bases .entry)) format) (now (records .entry))
         (lent (now (page .entry)) writer (now (readers .entry)) (now (buffers .entry))) x ⌝ }
-    ensures { λ r. ⌜ ((log : List ℕ) → 10 ≤ length log → CarriesStep (formOf (now (bases .entry)) format)
+    ensures { λ r. ⌜ ((log : List ℕ) → longest ≤ length log → CarriesStep (formOf (now (bases .entry)) format)
         (now (records .entry)) (lent (now (page .entry)) writer (now (readers .entry)) (now (buffers .entry))) x log) ⌝ }
 {
     let bytes = codec::encode(x);
-    let mut log = [0u8; 10];
+    let mut log = [0u8; codec::LONGEST];
     let r = page::run(
         readers,
         format,

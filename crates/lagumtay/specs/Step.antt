@@ -3,8 +3,6 @@ use mathlib.Core.List.{List}
 use mathlib.Core.Bool.{Bool, cond}
 use Prim.Native.Nat.{ℕ}
 use lib.Dec.{eqb}
-use Rattle.radix.specs.declared.Count.{Count}
-use Rattle.radix.specs.declared.Version.{Version}
 use Rattle.protocol.specs.Form.{Form, between}
 use Rattle.protocol.specs.Memory.{Memory}
 use Rattle.protocol.specs.Outcome.{refusalNumber}
@@ -21,7 +19,7 @@ use Rattle.protocol.specs.declared.Command.the-variants.{
 use Rattle.protocol.specs.declared.Ending.{Ending}
 use Rattle.protocol.specs.declared.Ending.the-variants.{Finished, Refused}
 use Rattle.protocol.specs.declared.Outcome.{Outcome}
-use Rattle.protocol.specs.declared.Outcome.the-variants.{Nothing, Shown, Accepted, GaveUp}
+use Rattle.protocol.specs.declared.Outcome.the-variants.{Nothing, Shown, Accepted, GaveUp, Between}
 use Rattle.protocol.specs.declared.Refusal.{Refusal}
 use Rattle.page.specs.declared.Answer.{Answer}
 use Rattle.page.specs.declared.Answer.the-variants.{Done as WasDone, Refused as WasRefused}
@@ -45,14 +43,23 @@ commandOf o =
     (cond (eqb (o .kind) 6) (ReaderStep (o .reader))
     (cond (eqb (o .kind) 7) (Cancel (o .reader)) (ReaderStep 255)))))))
 
-abbrev pub entryWith : (kind reader attempts : ℕ) → Version → Count → Entry
-entryWith k r a v c = record { kind = k; reader = r; attempts = a; version = v; count = c }
+abbrev pub entryWith : (kind reader attempts version count low high : ℕ) → Entry
+entryWith k r a v c l h = record {
+  kind = k;
+  reader = r;
+  attempts = a;
+  version = record { 0 = v };
+  count = record { 0 = c };
+  low = record { 0 = l };
+  high = record { 0 = h };
+}
 
 unfoldable pub entryOf : Outcome → Entry
-entryOf Nothing = entryWith 0 0 0 (record { 0 = 0 }) (record { 0 = 0 })
-entryOf (Shown r c) = entryWith 1 r 0 (record { 0 = 0 }) c
-entryOf (Accepted r k v) = entryWith 2 r k v (record { 0 = 0 })
-entryOf (GaveUp r k) = entryWith 3 r k (record { 0 = 0 }) (record { 0 = 0 })
+entryOf Nothing = entryWith 0 0 0 0 0 0 0
+entryOf (Shown r c) = entryWith 1 r 0 0 (c .0) 0 0
+entryOf (Accepted r k v) = entryWith 2 r k (v .0) 0 0 0
+entryOf (GaveUp r k) = entryWith 3 r k 0 0 0 0
+entryOf (Between r low high) = entryWith 4 r 0 0 0 (low .0) (high .0)
 
 -- as the code has it: of an unknown kind, that there is no such reader means that the command is unknown
 unfoldable pub numberOf : Order → Refusal → ℕ

@@ -5,9 +5,10 @@ ghost use mathlib.Core.List.{List};
 ghost use Prim.Native.Nat.{ℕ, _≤_};
 ghost use lib.ListN.{length};
 ghost use Rattle.protocol.specs.Form.{formOf};
+ghost use Rattle.protocol.specs.Outcome.{longest};
 ghost use Rattle.page.specs.Carry.{lent};
 ghost use Rattle.page.specs.Calls.{CarriesStep};
-ghost use Rattle.lagumtay.specs.Step.{known as isKnown, commandOf, entryOf, numberOf, endedOf, steppedLeft, stepCall};
+ghost use Rattle.lagumtay.specs.Step.{known as isKnown, commandOf, entryWith, entryOf, numberOf, endedOf, steppedLeft, stepCall};
 use page::Answer;
 use page::Stepped;
 use protocol::Command;
@@ -37,6 +38,8 @@ pub struct Entry {
     pub attempts: u8,
     pub version: Version,
     pub count: Count,
+    pub low: Count,
+    pub high: Count,
 }
 
 // What a step answers, in the types that leave the library.
@@ -72,42 +75,52 @@ fn command_of(o: Order) -> Command
     }
 }
 
+// An entry whose numbers are all 0.
+fn blank(kind: u8, reader: u8) -> Entry
+    ensures { λ r. ⌜ r ≡ entryWith kind reader 0 0 0 0 0 ⌝ }
+{
+    Entry {
+        kind: kind,
+        reader: reader,
+        attempts: 0,
+        version: Version(0),
+        count: Count(0),
+        low: Count(0),
+        high: Count(0),
+    }
+}
+
 fn entry_of(o: Outcome) -> Entry
     ensures { λ r. ⌜ r ≡ entryOf o ⌝ }
 {
     match o {
-        Outcome::Nothing => Entry {
-            kind: 0,
-            reader: 0,
-            attempts: 0,
-            version: Version(0),
-            count: Count(0),
-        },
-        Outcome::Shown { reader, count } => Entry {
-            kind: 1,
-            reader: reader,
-            attempts: 0,
-            version: Version(0),
-            count: count,
-        },
+        Outcome::Nothing => blank(0, 0),
+        Outcome::Shown { reader, count } => {
+            let mut e = blank(1, reader);
+            e.count = count;
+            e
+        }
         Outcome::Accepted {
             reader,
             attempts,
             version,
-        } => Entry {
-            kind: 2,
-            reader: reader,
-            attempts: attempts,
-            version: version,
-            count: Count(0),
-        },
-        Outcome::GaveUp { reader, attempts } => Entry {
-            kind: 3,
-            reader: reader,
-            attempts: attempts,
-            version: Version(0),
-            count: Count(0),
-        },
+        } => {
+            let mut e = blank(2, reader);
+            e.attempts = attempts;
+            e.version = version;
+            e
+        }
+        Outcome::GaveUp { reader, attempts } => {
+            let mut e = blank(3, reader);
+            e.attempts = attempts;
+            e
+        }
+        Outcome::Between { reader, low, high } => {
+            let mut e = blank(4, reader);
+            e.low = low;
+            e.high = high;
+            e
+        }
     }
 }
 
@@ -162,7 +175,7 @@ pub extern "C" fn lagumtay_step(
         ≡ stepCall (formOf (now (bases .entry)) (now (format .entry))) (now (records .entry))
         (lent (now (page .entry)) (now (writer .entry)) (now (readers .entry)) (now (buffers .entry)))
         (now (order .entry)) ⌝ }
-    ensures { λ r. ⌜ (isKnown (now (order .entry)) ≡ true → (log : List ℕ) → 10 ≤ length log → CarriesStep
+    ensures { λ r. ⌜ (isKnown (now (order .entry)) ≡ true → (log : List ℕ) → longest ≤ length log → CarriesStep
         (formOf (now (bases .entry)) (now (format .entry))) (now (records .entry))
         (lent (now (page .entry)) (now (writer .entry)) (now (readers .entry)) (now (buffers .entry)))
         (commandOf (now (order .entry))) log) ⌝ }

@@ -24,7 +24,7 @@ pub fn step(
         (kept (now (page .entry)) writer (now (states .entry)) (now (buffers .entry))) x ⌝ }
 {
     let bytes = codec::encode(x);
-    let mut log = [0u8; 10];
+    let mut log = [0u8; codec::LONGEST];
     let r = running::run(
         states,
         format,

@@ -1,4 +1,4 @@
-// A step of a count read: c1 left to right, then c2 right to left, and the count that they show.
+// A step of a count read: c1 left to right, then c2 right to left, and the count or the two ends that they allow.
 ghost use mathlib.Core.Path.{_≡_};
 ghost use Prim.Native.Nat.{_+_, _≤_, _<_};
 ghost use lib.ListN.{length, set};
@@ -52,10 +52,11 @@ fn end_count(
             };
             finishing::finish(stage, digits, o, room)
         }
-        Ends::Between { low: _, high } => {
-            let o = Outcome::Shown {
+        Ends::Between { low, high } => {
+            let o = Outcome::Between {
                 reader: who,
-                count: high,
+                low: low,
+                high: high,
             };
             finishing::finish(stage, digits, o, room)
         }

@@ -19,7 +19,7 @@ fn answer(e: Ending) -> Answer
 
 // What the run of one command and zeros told: if the command was carried out, its entry is all of the log, and what
 // the zeros after it answered is nothing to the caller.
-pub fn step_of_run(r: Ran, log: [u8; 10]) -> Stepped
+pub fn step_of_run(r: Ran, log: [u8; codec::LONGEST]) -> Stepped
     ensures { λ x. ⌜ x ≡ steppedOf r log ⌝ }
 {
     let w = r.writer;

@@ -9,6 +9,7 @@ use lib.ListN.{length, take, getD, replicate}
 use Rattle.radix.specs.declared.Count.{Count}
 use Rattle.radix.specs.declared.Version.{Version}
 use Rattle.radix.specs.declared.Place.{Place}
+use Rattle.radix.specs.Copies.{Choice, shown}
 use Rattle.protocol.specs.Lists.{concat, All, Both, Pairwise, Any}
 use Rattle.protocol.specs.Form.{Form, countSteps, recordSteps}
 use Rattle.protocol.specs.State.{
@@ -52,7 +53,7 @@ use Rattle.protocol.specs.History.{
   history,
 }
 use Rattle.protocol.specs.declared.Outcome.{Outcome}
-use Rattle.protocol.specs.declared.Outcome.the-variants.{Nothing, Shown, Accepted, GaveUp}
+use Rattle.protocol.specs.declared.Outcome.the-variants.{Nothing, Shown, Accepted, GaveUp, Between}
 use Rattle.protocol.specs.declared.Ending.{Ending}
 use Rattle.protocol.specs.declared.Ending.the-variants.{Finished}
 
@@ -85,7 +86,7 @@ lastOf ts = getD ts 0 0
 abbrev pub firstOf : List ℕ → ℕ
 firstOf ts = lastOf (reverse ts)
 
--- (B) EVERY COUNT SHOWN LIES IN ITS SPAN
+-- (B) EVERY COUNT READ ENDS IN ITS SPAN
 
 -- complete, and its last step before command t; begun, and its first step before command t
 abbrev pub writtenBefore : {A : Type 0} → ℕ → ℕ → Write A → Bool
@@ -99,12 +100,24 @@ abbrev pub latest : {A : Type 0} → (Write A → Bool) → A → List (Write A)
 latest test a [] = a
 latest test a (p ∷ ps) = cond (test p) (p .what) (latest test a ps)
 
--- c is the opening's count
-pub record Span (size : ℕ) (c : Count) (story : List Event) (cs : List (Write Count)) (x : CountRead) : Type 0 where
-  pub shown : Count
-  pub ends : outcomeAt story (lastOf (x .steps)) ≡ Shown (x .reader) shown
-  pub low : latest (writtenBefore size (firstOf (x .steps))) c cs .0 ≤ shown .0
-  pub high : shown .0 ≤ latest (begunBefore (lastOf (x .steps))) c cs .0
+-- the span of a read: from the last count fully written before its first step to the last begun before its last. Here
+-- and below, c₀ is the opening's count.
+pub record InSpan (size : ℕ) (c₀ : Count) (cs : List (Write Count)) (x : CountRead) (c : Count) : Type 0 where
+  pub low : latest (writtenBefore size (firstOf (x .steps))) c₀ cs .0 ≤ c .0
+  pub high : c .0 ≤ latest (begunBefore (lastOf (x .steps))) c₀ cs .0
+
+-- somebody wrote it: the opening, or a write begun before command t
+abbrev pub Begun : {A : Type 0} → ℕ → A → List (Write A) → A → Type 0
+Begun t a₀ ps a = (a ≡ a₀) ⊎ Any (λ p. (p .what ≡ a) × (begunBefore t p ≡ true)) ps
+
+-- how a finished count read may end: with a count that somebody wrote, or with two ends, the low one below the high one
+abbrev pub CountEnds : ℕ → Count → List (Write Count) → CountRead → Outcome → Type 0
+CountEnds size c₀ cs x Nothing = ⊥
+CountEnds size c₀ cs x (Shown r c) = (r ≡ x .reader) × InSpan size c₀ cs x c × Begun (lastOf (x .steps)) c₀ cs c
+CountEnds size c₀ cs x (Accepted r k v) = ⊥
+CountEnds size c₀ cs x (GaveUp r k) = ⊥
+CountEnds size c₀ cs x (Between r low high) =
+    (r ≡ x .reader) × (low .0 < high .0) × ((choice : Choice) → InSpan size c₀ cs x (shown choice low high))
 
 -- (C) EVERY UNDISTURBED ATTEMPT IS ACCEPTED
 
@@ -189,6 +202,7 @@ Ends F story y (Accepted r k v) = (y .accepted ≡ true) × (r ≡ y .reader) ×
 Ends F story y (GaveUp r k) =
     (y .accepted ≡ false) × (r ≡ y .reader) × Used F y k × (k ≡ y .allowed)
     × (bufferAt story (lastOf (y .steps)) r ≡ replicate (F .n) 0)
+Ends F story y (Between r low high) = ⊥
 
 -- an outcome is that of a read of the history
 abbrev pub Explained : History → ℕ → Outcome → Type 0
@@ -196,6 +210,7 @@ Explained h t Nothing = Unit {0}
 Explained h t (Shown r c) = Any (λ x. (x .reader ≡ r) × (lastOf (x .steps) ≡ t)) (h .countReads)
 Explained h t (Accepted r k v) = Any (λ y. (y .reader ≡ r) × (lastOf (y .steps) ≡ t)) (h .attempts)
 Explained h t (GaveUp r k) = Any (λ y. (y .reader ≡ r) × (lastOf (y .steps) ≡ t)) (h .attempts)
+Explained h t (Between r low high) = Any (λ x. (x .reader ≡ r) × (lastOf (x .steps) ≡ t)) (h .countReads)
 
 -- places count down to 1, latest first
 abbrev pub Placing : List (Write Placed) → Type 0
@@ -238,7 +253,8 @@ Mild F S e =
 pub record Demand3 (F : Form) (c : Count) (record₀ : List ℕ) (xs : List RunOver) (ys : List Ran) (L : Memory)
     (h : History) : Type 0 where
   pub linearization : Linearization F record₀ (storyOf ys) h
-  pub spans : All (Span (countSteps F) c (storyOf ys) (h .counts)) (h .countReads)
+  pub spans :
+      All (λ x. CountEnds (countSteps F) c (h .counts) x (outcomeAt (storyOf ys) (lastOf (x .steps)))) (h .countReads)
   pub undisturbed : All (Undisturbed (recordSteps F) (storyOf ys) (h .records)) (h .attempts)
   pub orderly : h .orderly ≡ true
   pub time : length (storyOf ys) ≡ h .now

@@ -6,16 +6,17 @@ use lib.ListN.{replicate}
 use Rattle.radix.specs.declared.Count.{Count}
 use Rattle.radix.specs.declared.Version.{Version}
 use Rattle.radix.specs.Digits.{digits}
-use Rattle.radix.specs.Copies.{compare}
+use Rattle.radix.specs.Copies.{compare, Choice, shown, chosen}
 use Rattle.radix.specs.Answers.{digitOf}
 use Rattle.radix.specs.declared.Fault.the-variants.{TooLarge}
 use Rattle.radix.specs.declared.Digit.{Digit}
 use Rattle.protocol.specs.Form.{Form}
 use Rattle.protocol.specs.State.{resting, aRecord, idle, State, withWriting}
-use Rattle.protocol.specs.Step.{refused, done, Gathered, shows, endCount, carry}
+use Rattle.protocol.specs.Step.{refused, done, Gathered, endCount, carry}
 use Rattle.protocol.specs.Outcome.{refusalNumber}
 use Rattle.protocol.specs.declared.Command.the-variants.{WriteCount, WriteRecord}
-use Rattle.protocol.specs.declared.Outcome.the-variants.{Nothing}
+use Rattle.protocol.specs.declared.Outcome.{Outcome}
+use Rattle.protocol.specs.declared.Outcome.the-variants.{Nothing, Shown, Between}
 use Rattle.protocol.specs.declared.Refusal.the-variants.{CountTooLarge, VersionsExhausted, CopiesCrossed}
 
 -- version base 10 with one place, records of one byte, one reader
@@ -35,9 +36,17 @@ single = withBases (10 ∷ [])
 abbrev pub countEnd : Form → List ℕ → List ℕ → Gathered
 countEnd F a b = endCount F 0 (0 ∷ []) a b (compare a b)
 
--- it shows the count c
-abbrev pub ShowsCount : Form → List ℕ → List ℕ → Count → Type 0
-ShowsCount F a b c = countEnd F a b ≡ shows 0 (0 ∷ []) c
+-- it ends as an outcome, and the reader is idle then
+abbrev pub EndsAs : Form → List ℕ → List ℕ → Outcome → Type 0
+EndsAs F a b o = countEnd F a b ≡ Gathered.gathered idle (0 ∷ []) o
+
+-- the copies part; the count shown is h, as in document 01's row, and beside it the low end is l
+pub record ShowsEnds (F : Form) (a b : List ℕ) (l h : Count) : Type 0 where
+  pub low : Count
+  pub high : Count
+  pub ends : EndsAs F a b (Between 0 low high)
+  pub row : shown chosen low high ≡ h
+  pub beside : shown Choice.low low high ≡ l
 
 -- the writer rests, and the versions stand at v
 abbrev pub versionsAt : Version → State
@@ -49,16 +58,16 @@ versionsAt v = record {
 }
 
 pub record Table : Type 0 where
-  pub turning : ShowsCount decimal (0 ∷ 0 ∷ 0 ∷ []) (1 ∷ 0 ∷ 0 ∷ []) (record { 0 = 100 })
-  pub nines : ShowsCount decimal (0 ∷ 9 ∷ 9 ∷ []) (1 ∷ 9 ∷ 9 ∷ []) (record { 0 = 100 })
-  -- 11:57 and 12:04 show 12:00; 11:59; the equal ones themselves
-  pub hour : ShowsCount clock (11 ∷ 57 ∷ []) (12 ∷ 4 ∷ []) (record { 0 = 720 })
-  pub minute : ShowsCount clock (11 ∷ 57 ∷ []) (11 ∷ 59 ∷ []) (record { 0 = 719 })
-  pub equal : ShowsCount clock (11 ∷ 57 ∷ []) (11 ∷ 57 ∷ []) (record { 0 = 717 })
+  pub turning : ShowsEnds decimal (0 ∷ 0 ∷ 0 ∷ []) (1 ∷ 0 ∷ 0 ∷ []) (record { 0 = 99 }) (record { 0 = 100 })
+  pub nines : ShowsEnds decimal (0 ∷ 9 ∷ 9 ∷ []) (1 ∷ 9 ∷ 9 ∷ []) (record { 0 = 99 }) (record { 0 = 100 })
+  -- 11:57 and 12:04 show 11:59 or 12:00; 11:57 or 11:59; the equal ones themselves
+  pub hour : ShowsEnds clock (11 ∷ 57 ∷ []) (12 ∷ 4 ∷ []) (record { 0 = 719 }) (record { 0 = 720 })
+  pub minute : ShowsEnds clock (11 ∷ 57 ∷ []) (11 ∷ 59 ∷ []) (record { 0 = 717 }) (record { 0 = 719 })
+  pub equal : EndsAs clock (11 ∷ 57 ∷ []) (11 ∷ 57 ∷ []) (Shown 0 (record { 0 = 717 }))
   pub crossed :
       (countEnd clock (12 ∷ 4 ∷ []) (11 ∷ 57 ∷ []) ≡ Gathered.refused CopiesCrossed)
       × (refusalNumber CopiesCrossed ≡ 10)
-  pub one-place : ShowsCount single (5 ∷ []) (7 ∷ []) (record { 0 = 7 })
+  pub one-place : ShowsEnds single (5 ∷ []) (7 ∷ []) (record { 0 = 5 }) (record { 0 = 7 })
   pub nine : (digits (single .bases) 9 ≡ 9 ∷ []) × (digitOf (single .bases) 0 9 ≡ Digit.Is 9)
   pub ten :
       (carry single (0 ∷ []) (versionsAt (record { 0 = 0 })) (WriteCount (record { 0 = 10 })) ≡ refused CountTooLarge)

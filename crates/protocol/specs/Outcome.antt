@@ -1,5 +1,5 @@
 -- Document 01's numbers and values for every case of every answer.
-use mathlib.Core.List.{List, [], _∷_}
+use mathlib.Core.List.{List, [], _∷_, _++_}
 use mathlib.Core.Bool.{Bool, true, false}
 use Prim.Native.Nat.{ℕ}
 use Rattle.radix.specs.Digits.{bytes}
@@ -21,7 +21,7 @@ use Rattle.protocol.specs.declared.Refusal.the-variants.{
 use Rattle.protocol.specs.declared.Ending.{Ending}
 use Rattle.protocol.specs.declared.Ending.the-variants.{Finished, Refused}
 use Rattle.protocol.specs.declared.Outcome.{Outcome}
-use Rattle.protocol.specs.declared.Outcome.the-variants.{Nothing, Shown, Accepted, GaveUp}
+use Rattle.protocol.specs.declared.Outcome.the-variants.{Nothing, Shown, Accepted, GaveUp, Between}
 
 abbrev pub refusalNumber : Refusal → ℕ
 refusalNumber BadFormat = 1
@@ -47,9 +47,15 @@ entry Nothing = []
 entry (Shown r c) = 1 ∷ r ∷ bytes 8 (c .0)
 entry (Accepted r k v) = 2 ∷ r ∷ k ∷ bytes 4 (v .0)
 entry (GaveUp r k) = 3 ∷ r ∷ k ∷ []
+entry (Between r low high) = 4 ∷ r ∷ bytes 8 (low .0) ++ bytes 8 (high .0)
+
+-- no entry is longer
+abbrev pub longest : ℕ
+longest = 18
 
 unfoldable pub isAccepted : Outcome → Bool
 isAccepted Nothing = false
 isAccepted (Shown r c) = false
 isAccepted (Accepted r k v) = true
 isAccepted (GaveUp r k) = false
+isAccepted (Between r low high) = false

@@ -4,11 +4,10 @@ use mathlib.Core.Bool.{Bool, _&&_, _||_, not, cond}
 use Prim.Native.Nat.{ℕ, suc, _+_, _*_, _-_}
 use lib.Dec.{eqb, ltb, leb}
 use lib.ListN.{length, take, drop, getD, set, replicate}
-use Rattle.radix.specs.declared.Count.{Count}
 use Rattle.radix.specs.declared.Comparison.{Comparison}
 use Rattle.radix.specs.declared.Comparison.the-variants.{Equal, Parted, Crossed}
 use Rattle.radix.specs.Digits.{product, value}
-use Rattle.radix.specs.Copies.{compare, highEnd}
+use Rattle.radix.specs.Copies.{compare, lowEnd, highEnd}
 use Rattle.protocol.specs.Form.{Form, m, versionBases, countSteps, recordSteps}
 use Rattle.protocol.specs.Layout.{
   c2,
@@ -50,7 +49,7 @@ use Rattle.protocol.specs.declared.Command.the-variants.{
   Cancel,
 }
 use Rattle.protocol.specs.declared.Outcome.{Outcome}
-use Rattle.protocol.specs.declared.Outcome.the-variants.{Nothing, Shown, Accepted, GaveUp}
+use Rattle.protocol.specs.declared.Outcome.the-variants.{Nothing, Shown, Accepted, GaveUp, Between}
 use Rattle.protocol.specs.declared.Refusal.{Refusal}
 use Rattle.protocol.specs.declared.Refusal.the-variants.{
   CountTooLarge,
@@ -113,12 +112,9 @@ copyA w ds = reverse (drop w ds)
 abbrev pub copyB : ℕ → List ℕ → List ℕ
 copyB w ds = take w ds
 
-abbrev pub shows : ℕ → List ℕ → Count → Gathered
-shows r buffer c = gathered idle buffer (Shown r c)
-
 unfoldable pub endCount : Form → (reader : ℕ) → List ℕ → (a b : List ℕ) → Comparison → Gathered
-endCount F r buffer a b Equal = shows r buffer (record { 0 = value (F .bases) a })
-endCount F r buffer a b (Parted p) = shows r buffer (highEnd (F .bases) p b)
+endCount F r buffer a b Equal = gathered idle buffer (Shown r (record { 0 = value (F .bases) a }))
+endCount F r buffer a b (Parted p) = gathered idle buffer (Between r (lowEnd (F .bases) p a) (highEnd (F .bases) p b))
 endCount F r buffer a b Crossed = refused CopiesCrossed
 
 -- the last step of an attempt: v2 was read left to right, v1 right to left

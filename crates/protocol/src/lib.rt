@@ -52,7 +52,8 @@ pub enum Command {
     Cancel(u8),
 }
 
-// How a command that was carried out ended. The record of `Accepted` is in the reader's buffer.
+// How a command that was carried out ended. The record of `Accepted` is in the reader's buffer; the copies of `Between`
+// parted, and these are the two ends that they allow.
 pub enum Outcome {
     Nothing,
     Shown {
@@ -67,6 +68,11 @@ pub enum Outcome {
     GaveUp {
         reader: u8,
         attempts: u8,
+    },
+    Between {
+        reader: u8,
+        low: Count,
+        high: Count,
     },
 }
 

@@ -3,6 +3,7 @@ pub mod RoundTrip
 pub mod Ends
 pub mod Order
 pub mod Prefix
+pub mod Bounds
 pub mod Lemmas
 pub mod Span
 pub mod Reads

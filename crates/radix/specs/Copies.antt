@@ -29,10 +29,22 @@ zerosAfter k ds = take k ds ++ replicate (length ds - k) 0
 abbrev pub largestAfter : ℕ → List ℕ → List ℕ → List ℕ
 largestAfter k bs ds = take k ds ++ map pred (drop k bs)
 
--- the count shown by document 01: the first p + 1 digits of b, zeros after
+-- the first p + 1 digits of b, zeros after
 abbrev pub highEnd : List ℕ → ℕ → List ℕ → Count
 highEnd bs p b = record { 0 = value bs (zerosAfter (suc p) b) }
 
 -- the first p + 1 digits of a, the largest digits after
 abbrev pub lowEnd : List ℕ → ℕ → List ℕ → Count
 lowEnd bs p a = record { 0 = value bs (largestAfter (suc p) bs a) }
+
+-- THE COUNT SHOWN where copies part: the end that is chosen
+pub data Choice : Type 0 where
+  low high : Choice
+
+abbrev pub shown : Choice → (low high : Count) → Count
+shown Choice.low l h = l
+shown Choice.high l h = h
+
+-- document 01's choice; no command names one yet
+abbrev pub chosen : Choice
+chosen = Choice.high

@@ -7,6 +7,7 @@ use lib.ListN.{length, drop, replicate}
 use Rattle.protocol.specs.Lists.{concat}
 use Rattle.protocol.specs.State.{opened}
 use Rattle.protocol.specs.Memory.{stored}
+use Rattle.protocol.specs.Outcome.{longest}
 use Rattle.protocol.specs.Run.{Event, Ran, run}
 use Rattle.protocol.specs.declared.Ending.the-variants.{Refused}
 use Rattle.report.specs.Header.{Parsed, refused, header, parse}
@@ -25,7 +26,7 @@ printedOf s (header x) =
     let given = drop (x .commands) s in
     listing (x .form .n)
     (run (x .form) (x .records) (stored (x .form) (opened (x .form) (x .count) (x .first)))
-    (record { given = given; log = replicate (10 * length given) 0 }))
+    (record { given = given; log = replicate (longest * length given) 0 }))
 
 abbrev pub printed : (more : Bool) → List ℕ → List ℕ
 printed more s = printedOf s (parse more s)

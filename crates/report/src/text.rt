@@ -4,7 +4,7 @@ ghost use mathlib.Core.List.{[], _∷_};
 ghost use Prim.Native.Nat.{_+_, _*_, _≤_, _<_};
 ghost use lib.ListN.{length};
 ghost use Rattle.codec.specs.Entry.{overlay, added};
-ghost use Rattle.report.specs.Text.{decimal, hex};
+ghost use Rattle.report.specs.Text.{decimal, spaced, hex};
 ghost use Rattle.report.specs.Text.{glyph as glyphOf};
 
 // A digit below sixteen.
@@ -50,7 +50,7 @@ fn spell(out: &mut [u8], at: usize, k: usize, x: u64)
 }
 
 // A space and x in decimal; the place after it.
-pub(crate) fn put_word(out: &mut [u8], at: usize, x: u64) -> usize
+fn put_word(out: &mut [u8], at: usize, x: u64) -> usize
     requires { ⌜ at + 21 ≤ length (now out) ⌝ }
     ensures { λ r. ⌜ added (now (out .exit)) r
         ≡ added (overlay (now (out .entry)) at (32 ∷ decimal x)) (at + length (32 ∷ decimal x)) ⌝ }
@@ -59,6 +59,22 @@ pub(crate) fn put_word(out: &mut [u8], at: usize, x: u64) -> usize
     out[at] = 32;
     spell(out, at + 1, k, x);
     at + 1 + k
+}
+
+// A space and each number in decimal; the place after them.
+pub(crate) fn put_words(out: &mut [u8], at: usize, xs: &[u64]) -> usize
+    requires { ⌜ at + 21 * length (now xs) ≤ length (now out) ⌝ }
+    ensures { λ r. ⌜ added (now (out .exit)) r
+        ≡ added (overlay (now (out .entry)) at (spaced (now (xs .entry))))
+        (at + length (spaced (now (xs .entry)))) ⌝ }
+{
+    let mut p = at;
+    let mut i: usize = 0;
+    while i < xs.len() {
+        p = put_word(out, p, xs[i]);
+        i = i + 1;
+    }
+    p
 }
 
 // Bytes in hexadecimal.

@@ -14,7 +14,7 @@ use Rattle.radix.specs.declared.Comparison.the-variants.{Equal, Parted, Crossed
 use Rattle.radix.specs.Digits.{product, value, valid}
 use Rattle.radix.specs.Copies.{compare}
 use Rattle.radix.proofs.Theorems.RoundTrip.{valid-sound, value-lt}
-use Rattle.radix.proofs.Parting.Ends.{zeros-after, ends-fit}
+use Rattle.radix.proofs.Parting.Ends.{zeros-after, largest-after, ends-fit}
 use Rattle.protocol.specs.Lists.{every}
 use Rattle.protocol.specs.Form.{Form, m, versionBases, countSteps, recordSteps, goodForm}
 use Rattle.protocol.specs.Layout.{look, c2, v1}
@@ -53,15 +53,17 @@ module _ (F : Form) (good : goodForm F ≡ true) where
   abbrev order : List ℕ
   order = F .bases ++ reverse (F .bases)
 
-  shown-fits :
+  count-fits :
       (r : ℕ) (b one two : List ℕ) → valid (F .bases) one ≡ true → valid (F .bases) two ≡ true → (x : Comparison) →
       Told (endCount F r b one two x)
   unfolding endCount
-  shown-fits r b one two v w Equal =
+  count-fits r b one two v w Equal =
       omega (arith, value-lt (valid-sound (F .bases) one v), in-range F good .count-fits)
-  shown-fits r b one two v w (Parted p) =
-      omega (arith, zeros-after (suc p) (F .bases) two w, ends-fit (suc p) (F .bases) two w (good-counts F good))
-  shown-fits r b one two v w Crossed = tt
+  count-fits r b one two v w (Parted p) = (
+    omega (arith, largest-after (suc p) (F .bases) one v, ends-fit (suc p) (F .bases) one v (good-counts F good)),
+    omega (arith, zeros-after (suc p) (F .bases) two w, ends-fit (suc p) (F .bases) two w (good-counts F good)),
+  )
+  count-fits r b one two v w Crossed = tt
 
   -- all digits of a count read are below their bases
   all-fit :
@@ -99,7 +101,7 @@ module _ (F : Form) (good : goodForm F ≡ true) where
   gather-fits who d b (ofCount ds) g t =
       by-cond Told (ltb (suc (length ds)) (countSteps F)) (λ e. tt) (λ e.
       let fit = all-fit d ds g t (ltb-false (suc (length ds)) (countSteps F) e) in
-      shown-fits who b (copyA (m F) (d ∷ ds)) (copyB (m F) (d ∷ ds))
+      count-fits who b (copyA (m F) (d ∷ ds)) (copyB (m F) (d ∷ ds))
       (fit-valid (F .bases) (copyA (m F) (d ∷ ds)) (fit-copyA (F .bases) (d ∷ ds) fit))
       (fit-valid (F .bases) (copyB (m F) (d ∷ ds)) (fit-copyB (F .bases) (d ∷ ds) fit))
       (compare (copyA (m F) (d ∷ ds)) (copyB (m F) (d ∷ ds))))

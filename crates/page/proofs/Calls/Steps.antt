@@ -1,14 +1,14 @@
 -- One command is the run of its bytes: what the run of them tells, whatever zeros follow.
 use mathlib.Core.Path.{_≡_, refl, ap, _∙_}
-use mathlib.Core.List.{List, [], _∷_, _++_}
+use mathlib.Core.List.{List, [], _∷_, append-nil}
 use mathlib.Core.Bool.{true}
 use Prim.Native.Nat.{ℕ, zero, suc, _-_, _≤_}
 use native.Mathlib.Omega.{arith}
-use lib.ListN.{length, drop, replicate}
+use lib.ListN.{length, replicate}
 use borrow.Author.Tests.{le-ltb, eq-eqb, ne-eqb}
 use Rattle.protocol.specs.Form.{Form}
 use Rattle.protocol.specs.State.{State}
-use Rattle.protocol.specs.Outcome.{entry}
+use Rattle.protocol.specs.Outcome.{entry, longest}
 use Rattle.protocol.specs.Command.{command, decode}
 use Rattle.protocol.specs.Step.{Answer, refused, done, carry}
 use Rattle.protocol.specs.Memory.{Memory}
@@ -19,17 +19,17 @@ use Rattle.protocol.specs.declared.Command.{Command}
 use Rattle.protocol.specs.declared.Ending.{Ending}
 use Rattle.protocol.specs.declared.Ending.the-variants.{Finished, Refused}
 use Rattle.protocol.specs.declared.Outcome.{Outcome}
-use Rattle.protocol.specs.declared.Outcome.the-variants.{Nothing, Shown, Accepted, GaveUp}
 use Rattle.protocol.specs.declared.Refusal.the-variants.{UnknownCommand}
 use Rattle.protocol.proofs.Lists.Cases.{three}
+use Rattle.protocol.proofs.Log.Entries.{entry-longest}
 use Rattle.protocol.proofs.Memory.Stored.{stored-load}
 use Rattle.protocol.proofs.Allowed.Means.{means}
 use Rattle.protocol.proofs.Runs.Fuel.{full, full-over, full-unknown, full-command}
 use Rattle.codec.specs.Encode.{encode, nine, InRange}
-use Rattle.codec.specs.Entry.{outcomeIn, Fits}
+use Rattle.codec.specs.Entry.{outcomeIn}
 use Rattle.codec.proofs.Encodes.{decode-encode}
 use Rattle.codec.proofs.Nines.{decode-nine, decode-zeros}
-use Rattle.codec.proofs.FoundAgain.{outcome-entry, outcome-zeros}
+use Rattle.codec.proofs.FoundAgain.{outcome-first}
 use Rattle.checks.proofs.Opening.{opensInto}
 use Rattle.page.specs.declared.Answer.{Answer as PageAnswer}
 use Rattle.page.specs.declared.Answer.the-variants.{Done, Refused as No}
@@ -40,21 +40,6 @@ use Rattle.page.specs.Calls.{CarriesStep}
 use Rattle.page.proofs.Calls.Begun.{begins, run-is}
 use Rattle.page.proofs.Calls.Carries.{carries}
 use Rattle.page.proofs.Calls.Outcomes.{Fine, carry-fits}
-
--- no entry is longer than ten bytes, and it is found again
-pub entry-most : (o : Outcome) → length (entry o) ≤ 10
-unfolding entry
-entry-most Nothing = omega arith
-entry-most (Shown r c) = omega arith
-entry-most (Accepted r k v) = omega arith
-entry-most (GaveUp r k) = omega arith
-
-in-ten : (o : Outcome) → Fits o → outcomeIn ((entry o ++ []) ++ drop (length (entry o ++ [])) (replicate 10 0)) ≡ o
-unfolding entry
-in-ten Nothing h = outcome-zeros 10
-in-ten (Shown r c) h = outcome-entry (Shown r c) [] h (omega arith)
-in-ten (Accepted r k v) h = outcome-entry (Accepted r k v) (replicate 3 0) h (omega arith)
-in-ten (GaveUp r k) h = outcome-entry (GaveUp r k) (replicate 7 0) h (omega arith)
 
 -- what the run of one command comes to, where e is how what follows ends
 abbrev oneRun : State → Ending → Answer → Execution
@@ -77,15 +62,15 @@ module _ (F : Form) (S : List ℕ) where
   zeros-end (suc k) = (Refused UnknownCommand, zeros-quiet k)
 
   one-answered :
-      (rest : List ℕ) (e : Ending) → Quiet rest e → (room : ℕ) → 10 ≤ room → (σ : State) (a : Answer) →
+      (rest : List ℕ) (e : Ending) → Quiet rest e → (room : ℕ) → longest ≤ room → (σ : State) (a : Answer) →
       answered (full F S) room σ rest a ≡ oneRun σ e a
   unfolding answered
   one-answered rest e q room h σ (refused why) = refl
   one-answered rest e q room h σ (done τ o) =
-      rw (le-ltb room (length (entry o)) (omega (arith, entry-most o)), q (room - length (entry o)) τ)
+      rw (le-ltb room (length (entry o)) (omega (arith, entry-longest o)), q (room - length (entry o)) τ)
 
   module _ (L : Memory) (x : Command) (s rest : List ℕ) (says : decode s ≡ command x rest) (e : Ending)
-      (quiet : Quiet rest e) (log : List ℕ) (room : 10 ≤ length log) where
+      (quiet : Quiet rest e) (log : List ℕ) (room : longest ≤ length log) where
     abbrev this : Run
     this = record { given = s; log = log }
 
@@ -107,7 +92,7 @@ module _ (F : Form) (S : List ℕ) where
         by-answer : Ready F S L → (a : Answer) →
             inMemory F (oneRun (load F L) e a) .memory ≡ onAnswer F anyRoom L a .memory
         by-answer ready (refused why) = stored-load F S L (ready .lengths) (ready .valid)
-        by-answer ready (done τ o) = rw (le-ltb anyRoom (length (entry o)) (omega (arith, entry-most o)))
+        by-answer ready (done τ o) = rw (le-ltb anyRoom (length (entry o)) (omega (arith, entry-longest o)))
 
         by-start : (z : Ending) → startLent F S L ≡ z →
             opensInto L (inMemory F (oneRun (load F L) e answer)) z .memory ≡ onStart F S L x z .memory
@@ -119,7 +104,7 @@ state-allowed : {F : Form} {S : List ℕ} {L : Memory} → Ready F S L → allow
 unfolding validMemory
 state-allowed {F} {S} {L} ready = three (allowed F S (load F L)) _ _ (ready .valid) .0
 
--- WHAT IT TELLS, with a log of ten zeros
+-- WHAT IT TELLS, with a log of so many zeros
 abbrev tells : RanLent → After
 tells z = after (steppedOf (z .ran) (z .log) .answer) (z .memory)
 
@@ -131,7 +116,7 @@ module _ (F : Form) (S : List ℕ) (L : Memory) (x : Command) (range : InRange x
   rest = replicate (9 - length (encode x)) 0
 
   abbrev log : List ℕ
-  log = replicate 10 0
+  log = replicate longest 0
 
   run-tells : tells (runLent F S L s log) ≡ stepLent F S L x
   unfolding runLent onStart onAnswer answerOf
@@ -147,7 +132,7 @@ module _ (F : Form) (S : List ℕ) (L : Memory) (x : Command) (range : InRange x
           ≡ onAnswer F anyRoom L a
       by-answer e ready (refused why) h = ap (after (No why)) (stored-load F S L (ready .lengths) (ready .valid))
       by-answer e ready (done τ o) h =
-          rw (le-ltb anyRoom (length (entry o)) (omega (arith, entry-most o)), in-ten o h)
+          rw (le-ltb anyRoom (length (entry o)) (omega (arith, entry-longest o)), append-nil (entry o), outcome-first o h)
 
       by-start : (e z : Ending) → startLent F S L ≡ z →
           let y = opensInto L (inMemory F (oneRun (load F L) e (carry F S (load F L) x))) z in
@@ -166,7 +151,7 @@ module _ (F : Form) (S : List ℕ) (L : Memory) (x : Command) (range : InRange x
   step-is e = ap tells e ∙ run-tells
 
   -- the claim, with any log that has room for every entry
-  pub step-carries : (l : List ℕ) → 10 ≤ length l → CarriesStep F S L x l
+  pub step-carries : (l : List ℕ) → longest ≤ length l → CarriesStep F S L x l
   step-carries l h = record {
     leaves = run-leaves F S L x (encode x) [] (decode-encode x range) Finished (none-quiet F S) l h;
     claim = carries F S L (record { given = encode x; log = l });

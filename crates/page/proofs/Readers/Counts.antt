@@ -12,7 +12,7 @@ use denote.Enum.Declared.{tagOf}
 use types.Run.{OneOf}
 use Rattle.radix.proofs.Ends.{the-type}
 use Rattle.radix.specs.declared.Ends.{Ends}
-use Rattle.radix.specs.declared.Ends.the-variants.{Same, Between}
+use Rattle.radix.specs.declared.Ends.the-variants.{Same}
 use Rattle.radix.specs.declared.Comparison.{Comparison}
 use Rattle.radix.specs.declared.Comparison.the-variants.{Equal, Parted, Crossed}
 use Rattle.radix.specs.Digits.{valid}
@@ -20,11 +20,11 @@ use Rattle.radix.specs.Copies.{compare}
 use Rattle.radix.specs.Answers.{goodBases, endsAt, endsOf}
 use Rattle.radix.proofs.Theorems.RoundTrip.{valid-sound, length-valid}
 use Rattle.protocol.specs.Form.{Form, m, countSteps}
-use Rattle.protocol.specs.State.{ofCount}
-use Rattle.protocol.specs.Step.{Gathered, copyA, copyB, shows, endCount, gather}
+use Rattle.protocol.specs.State.{idle, ofCount}
+use Rattle.protocol.specs.Step.{Gathered, copyA, copyB, endCount, gather}
 use Rattle.protocol.specs.Memory.{stageAt, readerOf, storedDigits, storedReading}
 use Rattle.protocol.specs.Load.{loadReading}
-use Rattle.protocol.specs.declared.Outcome.the-variants.{Nothing}
+use Rattle.protocol.specs.declared.Outcome.the-variants.{Nothing, Shown, Between}
 use Rattle.protocol.specs.declared.Refusal.the-variants.{CopiesCrossed}
 use Rattle.protocol.specs.declared.Reader.{Reader}
 use Rattle.protocol.proofs.Lists.Cases.{together}
@@ -47,28 +47,28 @@ pub ends-parts :
     e ≡ endsOf bs (copyOne bs digits) (copyTwo bs digits)
 ends-parts bs digits e h = let w : 8 + length bs - 8 ≡ length bs = omega arith in rw w at h
 
--- what the ends of two copies show
-unfoldable pub shownBy : ℕ → List ℕ → Ends → Gathered
-shownBy r b (Same c) = shows r b c
-shownBy r b (Between low high) = shows r b high
-shownBy r b Ends.Crossed = Gathered.refused CopiesCrossed
-shownBy r b (Ends.Refused why) = Gathered.refused CopiesCrossed
+-- how a read with these ends of its copies ends
+unfoldable pub toldBy : ℕ → List ℕ → Ends → Gathered
+toldBy r b (Same c) = Gathered.gathered idle b (Shown r c)
+toldBy r b (Ends.Between low high) = Gathered.gathered idle b (Between r low high)
+toldBy r b Ends.Crossed = Gathered.refused CopiesCrossed
+toldBy r b (Ends.Refused why) = Gathered.refused CopiesCrossed
 
--- the two ends that show nothing: the code tells by the tag alone
-pub none-shown : (r : ℕ) (b : List ℕ) (e : Ends) → OneOf (2 ∷ 3 ∷ []) (tagOf the-type e)
-    → shownBy r b e ≡ Gathered.refused CopiesCrossed
-unfolding shownBy
-none-shown r b (Same c) h = absurd (⊎-elim (λ e. omega (arith, e)) (λ e. omega (arith, e)) h)
-none-shown r b (Between low high) h = absurd (⊎-elim (λ e. omega (arith, e)) (λ e. omega (arith, e)) h)
-none-shown r b Ends.Crossed h = refl
-none-shown r b (Ends.Refused why) h = refl
+-- the two that tell nothing: the code tells by the tag alone
+pub none-told : (r : ℕ) (b : List ℕ) (e : Ends) → OneOf (2 ∷ 3 ∷ []) (tagOf the-type e)
+    → toldBy r b e ≡ Gathered.refused CopiesCrossed
+unfolding toldBy
+none-told r b (Same c) h = absurd (⊎-elim (λ e. omega (arith, e)) (λ e. omega (arith, e)) h)
+none-told r b (Ends.Between low high) h = absurd (⊎-elim (λ e. omega (arith, e)) (λ e. omega (arith, e)) h)
+none-told r b Ends.Crossed h = refl
+none-told r b (Ends.Refused why) h = refl
 
-shown-at : (F : Form) (r : ℕ) (b one two : List ℕ) (x : Comparison) →
-    shownBy r b (endsAt (F .bases) one two x) ≡ endCount F r b one two x
-unfolding shownBy endCount
-shown-at F r b one two Equal = refl
-shown-at F r b one two (Parted p) = refl
-shown-at F r b one two Crossed = refl
+told-at : (F : Form) (r : ℕ) (b one two : List ℕ) (x : Comparison) →
+    toldBy r b (endsAt (F .bases) one two x) ≡ endCount F r b one two x
+unfolding toldBy endCount
+told-at F r b one two Equal = refl
+told-at F r b one two (Parted p) = refl
+told-at F r b one two Crossed = refl
 
 -- whole and valid digits have ends
 ends-valid :
@@ -84,15 +84,15 @@ ends-valid bs one two good v w =
     )
 
 -- the last step, from the ends that the code found
-pub count-shown :
+pub count-told :
     (F : Form) (who room : ℕ) (s : Stage) (digits b : List ℕ) (e : Ends) → Whole (F .bases) digits →
     e ≡ endsOf (F .bases) (copyOne (F .bases) digits) (copyTwo (F .bases) digits) →
-    onGathered F room (before s digits) b (shownBy who b e) ≡ countEnded F who room s digits b
-count-shown F who room s digits b e w is =
-    ap (λ (y : Ends). onGathered F room (before s digits) b (shownBy who b y))
+    onGathered F room (before s digits) b (toldBy who b e) ≡ countEnded F who room s digits b
+count-told F who room s digits b e w is =
+    ap (λ (y : Ends). onGathered F room (before s digits) b (toldBy who b y))
     (is ∙ ends-valid (F .bases) _ _ (w .good) (w .one) (w .two))
     ∙ ap (onGathered F room (before s digits) b)
-    (shown-at F who b _ _ (compare (copyOne (F .bases) digits) (copyTwo (F .bases) digits)))
+    (told-at F who b _ _ (compare (copyOne (F .bases) digits) (copyTwo (F .bases) digits)))
 
 -- ONE STEP
 module _ (F : Form) (s : Stage) (l : List ℕ) (at : AtCount F (readerOf s l)) (d : ℕ) where

@@ -1,5 +1,5 @@
 -- A step of a count read.
-use mathlib.Core.Path.{_≡_, refl, ap}
+use mathlib.Core.Path.{_≡_, refl, sym, ap, subst}
 use mathlib.Core.Logic.{inl, inr}
 use mathlib.Core.List.{List, _∷_}
 use Prim.Native.Nat.{ℕ, suc, _≤_, _<_}
@@ -11,22 +11,31 @@ use borrow.Author.Tests.{eq-eqb, ne-eqb, ltb-true, ltb-false}
 use Rattle.radix.specs.declared.Count.{Count}
 use Rattle.radix.specs.declared.Comparison.{Comparison}
 use Rattle.radix.specs.declared.Comparison.the-variants.{Equal, Parted, Crossed}
-use Rattle.radix.specs.Digits.{value}
-use Rattle.radix.specs.Copies.{compare}
+use Rattle.radix.specs.Copies.{compare, Choice, shown}
 use Rattle.protocol.specs.Form.{Form, m, countSteps}
 use Rattle.protocol.specs.Layout.{countReadOrder}
 use Rattle.protocol.specs.State.{idle, ofCount, State, bufferOf}
 use Rattle.protocol.specs.Outcome.{isAccepted}
-use Rattle.protocol.specs.Step.{Gathered, copyA, copyB, shows, endCount, gather, onGathered}
+use Rattle.protocol.specs.Step.{Gathered, copyA, copyB, endCount, gather, onGathered}
 use Rattle.protocol.specs.Run.{Event}
-use Rattle.protocol.specs.History.{Read, CountRead, History, readerSteps, countPending}
-use Rattle.protocol.specs.Demand.{idles, readsCount, firstOf, lastOf, writtenBefore, begunBefore, latest}
+use Rattle.protocol.specs.History.{Read, CountRead, History, read, readerSteps, countPending}
+use Rattle.protocol.specs.Demand.{
+  idles,
+  readsCount,
+  firstOf,
+  lastOf,
+  writtenBefore,
+  begunBefore,
+  latest,
+  InSpan,
+  CountEnds,
+  Explained,
+}
 use Rattle.protocol.specs.declared.Outcome.{Outcome}
-use Rattle.protocol.specs.declared.Outcome.the-variants.{Shown}
 use Rattle.protocol.proofs.Lists.Cases.{by-cond}
 use Rattle.protocol.proofs.Items.Times.{desc-now, first-le}
 use Rattle.protocol.proofs.Counts.Span.{Within}
-use Rattle.protocol.proofs.Counts.Part.{Counting, gathers, finish, count-kept, count-reader}
+use Rattle.protocol.proofs.Counts.Part.{Wrote, Counting, gathers, finish, count-kept, count-reader}
 use Rattle.protocol.proofs.Records.Finish.{outcome-new}
 use Rattle.protocol.proofs.Commands.Invariant.{Proper, Inv, GoesTo}
 use Rattle.protocol.proofs.Commands.Reader.{
@@ -67,25 +76,25 @@ module _ (F : Form) (x : Count) (r₀ : List ℕ) (ok : Proper F r₀) (story : 
   high = latest (begunBefore (lastOf us)) x (h .counts) .0
 
   module _ (full : suc (length ds) ≡ countSteps F) where
-    shows-within : (c : Count) → low ≤ c .0 → c .0 ≤ high → Comes (shows r buffer c)
-    unfolding onGathered readerSteps isAccepted
-    shows-within c l g =
-        let o : Outcome = Shown r c in
-        let y : CountRead = record { reader = r; steps = us } in
+    abbrev y : CountRead
+    y = record { reader = r; steps = us }
+
+    -- with an outcome as the claim has it
+    ends-as :
+        (o : Outcome) → CountEnds (countSteps F) x (h .counts) y o →
+        Explained (read h r Read.noRead (y ∷ h .countReads) (h .attempts)) (suc (h .now)) o →
+        Comes (Gathered.gathered idle buffer o)
+    unfolding onGathered readerSteps
+    ends-as o spans told =
         let e : Event = event σ r idle buffer o in
         rw (eq-eqb (suc (length ts)) (countSteps F) (omega (arith, counting .same)))
         (reader-inv F x r₀ ok story σ h inv r reader o idle Read.noRead buffer (y ∷ h .countReads) (h .attempts)
-        (inv .marks) idles (record { reads = λ i t q. inr q; attempts = λ i t q. q }) (inl (refl, refl))
+        (inv .marks) idles (record { reads = λ i t q. inr q; attempts = λ i t q. q }) told
         (count-reader F x (ok .places) story (h .now) (σ .page) (countPending (h .pending)) (h .counts) (σ .readings)
         (h .reads) (h .countReads) (inv .counts) e (inv .time) r idle Read.noRead (y ∷ h .countReads)
         (at-readings F x r₀ ok story σ h inv r reader) (at-reads F x r₀ ok story σ h inv r reader) tt (
           record {
-            span = record {
-              shown = c;
-              ends = outcome-new story (h .now) (inv .time) e;
-              low = l;
-              high = g;
-            };
+            span = subst (CountEnds (countSteps F) x (h .counts) y) (sym (outcome-new story (h .now) (inv .time) e)) spans;
             begins = first-le (desc-now (counting .desc));
             ends = (omega arith, le-refl _);
           },
@@ -94,13 +103,19 @@ module _ (F : Form) (x : Count) (r₀ : List ℕ) (ok : Proper F r₀) (story : 
         ))
         (records-on F x r₀ ok story σ h inv r reader o idle Read.noRead buffer (inv .records .buffered r reader) tt))
 
+    either : (a b : Count) → low ≤ a .0 → a .0 < b .0 → b .0 ≤ high → (choice : Choice) →
+        InSpan (countSteps F) x (h .counts) y (shown choice a b)
+    either a b l lt g Choice.low = record { low = l; high = omega arith }
+    either a b l lt g Choice.high = record { low = omega arith; high = g }
+
     -- the copies are not crossed
     ends-count :
-        (c : Comparison) → Within (F .bases) low high (copyA (m F) ds′) (copyB (m F) ds′) c →
+        (c : Comparison) →
+        Within (Wrote F x (lastOf us) (h .counts)) (F .bases) low high (copyA (m F) ds′) (copyB (m F) ds′) c →
         Comes (endCount F r buffer (copyA (m F) ds′) (copyB (m F) ds′) c)
     unfolding endCount
-    ends-count Equal w = shows-within (record { 0 = value (F .bases) (copyA (m F) ds′) }) (w .0) (w .1)
-    ends-count (Parted p) w = shows-within _ (omega (arith, w .0, w .1)) (w .2)
+    ends-count Equal w = ends-as _ (refl, record { low = w .0; high = w .1 }, w .2) (inl (refl, refl))
+    ends-count (Parted p) w = ends-as _ (refl, w .1, either _ _ (w .0) (w .1) (w .2)) (inl (refl, refl))
     ends-count Crossed w = absurd w
 
   pub steps-count :

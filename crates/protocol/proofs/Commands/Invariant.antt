@@ -36,7 +36,7 @@ use Rattle.protocol.specs.declared.Command.{Command}
 use Rattle.protocol.specs.declared.Ending.{Ending}
 use Rattle.protocol.specs.declared.Ending.the-variants.{Refused}
 use Rattle.protocol.specs.declared.Outcome.{Outcome}
-use Rattle.protocol.specs.declared.Outcome.the-variants.{Nothing, Shown, Accepted, GaveUp}
+use Rattle.protocol.specs.declared.Outcome.the-variants.{Nothing, Shown, Accepted, GaveUp, Between}
 use Rattle.protocol.proofs.Counts.Part.{CountInv}
 use Rattle.protocol.proofs.Linearization.Marks.{Mark}
 use Rattle.protocol.proofs.Records.Part.{RecordInv}
@@ -112,6 +112,7 @@ still-explained h h′ more t Nothing e = tt
 still-explained h h′ more t (Shown r c) e = more .reads r t e
 still-explained h h′ more t (Accepted r k v) e = more .attempts r t e
 still-explained h h′ more t (GaveUp r k) e = more .attempts r t e
+still-explained h h′ more t (Between r l g) e = more .reads r t e
 
 -- one event more: what was explained still is
 pub explained-on :

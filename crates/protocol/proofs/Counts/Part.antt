@@ -12,7 +12,7 @@ use lib.ListN.{length, getD, set}
 use lib.Seq.{getD-set-same, getD-set-other}
 use Rattle.radix.specs.declared.Count.{Count}
 use Rattle.radix.specs.Digits.{product, value, digits}
-use Rattle.radix.specs.Copies.{compare}
+use Rattle.radix.specs.Copies.{compare, shown}
 use Rattle.radix.proofs.Theorems.RoundTrip.{value-digits, length-digits}
 use Rattle.protocol.specs.Lists.{All}
 use Rattle.protocol.specs.Form.{Form, m, countSteps}
@@ -21,8 +21,19 @@ use Rattle.protocol.specs.State.{Reading, idle, ofCount, ofRecord}
 use Rattle.protocol.specs.Step.{copyA, copyB}
 use Rattle.protocol.specs.Run.{Event}
 use Rattle.protocol.specs.History.{Write, begun, Read, CountRead}
-use Rattle.protocol.specs.Demand.{lastOf, firstOf, writtenBefore, begunBefore, latest, Span}
-use Rattle.protocol.specs.declared.Outcome.the-variants.{Nothing}
+use Rattle.protocol.specs.Demand.{
+  outcomeAt,
+  lastOf,
+  firstOf,
+  writtenBefore,
+  begunBefore,
+  latest,
+  InSpan,
+  Begun,
+  CountEnds,
+}
+use Rattle.protocol.specs.declared.Outcome.{Outcome}
+use Rattle.protocol.specs.declared.Outcome.the-variants.{Nothing, Shown, Accepted, GaveUp, Between}
 use Rattle.protocol.proofs.Lists.Cases.{by-cond, all-map}
 use Rattle.protocol.proofs.Lists.Places.{look-is}
 use Rattle.protocol.proofs.Lists.Story.{snoc-old}
@@ -39,6 +50,7 @@ use Rattle.protocol.proofs.Items.Writes.{
   cur-falls,
   cur-last,
   cur-first,
+  cur-begun,
   begin-fit,
   begin-cur,
   begin-grow,
@@ -48,19 +60,27 @@ use Rattle.protocol.proofs.Items.Writes.{
   step-there,
   step-grow,
 }
-use Rattle.protocol.proofs.Items.Seen.{Holds, holds-set, Fell, fell-up}
+use Rattle.protocol.proofs.Items.Begun.{wrote-later}
+use Rattle.protocol.proofs.Items.Seen.{Holds, holds-set, Fell, fell-known, fell-up}
 use Rattle.protocol.proofs.Counts.Span.{Within, spanned}
 
 abbrev pub num : Count → ℕ
 num c = c .0
 
 module _ (F : Form) (x : Count) where
+  -- somebody wrote the number before command t
+  abbrev pub Wrote : ℕ → List (Write Count) → ℕ → Type 0
+  Wrote t ps v = Begun t x ps (record { 0 = v })
+
+  wrote-next : (now : ℕ) (ps : List (Write Count)) (v : ℕ) → Wrote now ps v → Wrote (suc now) ps v
+  wrote-next now ps v = wrote-later now x (record { 0 = v }) (suc now) (omega arith) ps
+
   -- a count read in progress
   pub record Counting (now : ℕ) (c : ℕ → ℕ) (ps : List (Write Count)) (ds ts : List ℕ) : Type 0 where
     pub same : length ts ≡ length ds
     pub desc : Desc now ts
     pub fell : 0 < length ds → (p : ℕ) → p + length ds ≡ countSteps F
-        → Fell (countImage F) p ds (latest (writtenBefore (countSteps F) (firstOf ts)) x ps .0) (c p)
+        → Fell (Wrote now ps) (countImage F) p ds (latest (writtenBefore (countSteps F) (firstOf ts)) x ps .0) (c p)
 
   abbrev pub CRel : ℕ → (ℕ → ℕ) → List (Write Count) → Reading → Read → Type 0
   CRel now c ps idle rd = Unit {0}
@@ -70,7 +90,7 @@ module _ (F : Form) (x : Count) where
   CRel now c ps (ofRecord a f s ds) rd = Unit {0}
 
   pub record Done (story : List Event) (now : ℕ) (ps : List (Write Count)) (r : CountRead) : Type 0 where
-    pub span : Span (countSteps F) x story ps r
+    pub span : CountEnds (countSteps F) x ps r (outcomeAt story (lastOf (r .steps)))
     pub begins : firstOf (r .steps) ≤ now
     pub ends : (1 ≤ lastOf (r .steps)) × (lastOf (r .steps) ≤ now)
 
@@ -100,22 +120,33 @@ module _ (F : Form) (x : Count) where
     crel-grow (ofCount ds) (Read.countRead ts) h = record {
       same = h .same;
       desc = desc-le (omega arith) (h .desc);
-      fell = λ l p e. rw (g .full (firstOf ts) (omega (arith, first-le (h .desc)))) (fell-up (g .up p) (h .fell l p e));
+      fell = λ l p e. rw (g .full (firstOf ts) (omega (arith, first-le (h .desc))))
+          (fell-known (λ v w. g .kept (suc now) (record { 0 = v }) (wrote-next now ps v w))
+          (fell-up (g .up p) (h .fell l p e)));
     }
+
+    in-grow : (r : CountRead) (c : Count) → firstOf (r .steps) ≤ now → lastOf (r .steps) ≤ now
+        → InSpan (countSteps F) x ps r c → InSpan (countSteps F) x ps′ r c
+    in-grow r c begins ends s = record {
+      low = omega (arith, g .full (firstOf (r .steps)) (omega arith), s .low);
+      high = omega (arith, g .first (lastOf (r .steps)) (omega arith), s .high);
+    }
+
+    ends-grow : (r : CountRead) (o : Outcome) → firstOf (r .steps) ≤ now → lastOf (r .steps) ≤ now
+        → CountEnds (countSteps F) x ps r o → CountEnds (countSteps F) x ps′ r o
+    ends-grow r Nothing a b s = s
+    ends-grow r (Shown i c) a b s = (s .0, in-grow r c a b (s .1), g .kept (lastOf (r .steps)) c (s .2))
+    ends-grow r (Accepted i k v) a b s = s
+    ends-grow r (GaveUp i k) a b s = s
+    ends-grow r (Between i l h) a b s = (s .0, s .1, λ ch. in-grow r (shown ch l h) a b (s .2 ch))
 
     done-grow : (story : List Event) (e : Event) → length story ≡ now → (r : CountRead) → Done story now ps r
         → Done (story ++ (e ∷ [])) (suc now) ps′ r
     done-grow story e l r d =
-        let full = g .full (firstOf (r .steps)) (omega arith) in
-        let first = g .first (lastOf (r .steps)) (omega arith) in
         record {
-          span = record {
-            shown = d .span .shown;
-            ends = snoc-old (λ (e : Event). e .outcome) story (e ∷ []) Nothing (lastOf (r .steps) - 1) (omega arith)
-                ∙ d .span .ends;
-            low = omega (arith, full, first, d .span .low);
-            high = omega (arith, full, first, d .span .high);
-          };
+          span =
+              rw (snoc-old (λ (e : Event). e .outcome) story (e ∷ []) Nothing (lastOf (r .steps) - 1) (omega arith))
+              (ends-grow r (outcomeAt story (lastOf (r .steps))) (d .begins) (d .ends .1) (d .span));
           begins = omega arith;
           ends = omega arith;
         }
@@ -126,20 +157,23 @@ module _ (F : Form) (x : Count) where
 
     -- one more digit
     module _ (now : ℕ) (b : Bool) (ps : List (Write Count)) (fit : Fit num (countSteps F) now x b ps) where
+      here : (k : ℕ) → Wrote (suc now) ps (cur num b x ps k)
+      here = cur-begun num (countSteps F) x sizePos now (Wrote (suc now) ps) b ps fit (λ a w. w)
+
       gather-fell : (ds ts : List ℕ) → Counting now (cur num b x ps) ps ds ts → (p d : ℕ)
           → p + suc (length ds) ≡ countSteps F → d ≡ getD (countImage F (cur num b x ps p)) p 0
-          → Fell (countImage F) p (d ∷ ds) (latest (writtenBefore (countSteps F) (firstOf (suc now ∷ ts))) x ps .0)
-          (cur num b x ps p)
+          → Fell (Wrote (suc now) ps) (countImage F) p (d ∷ ds)
+          (latest (writtenBefore (countSteps F) (firstOf (suc now ∷ ts))) x ps .0) (cur num b x ps p)
       gather-fell [] [] h p d e q =
-          Fell.more q (le-refl _)
+          Fell.more (here p) q (le-refl _)
           (Fell.none (le-of-eq (sym (cur-last num (countSteps F) x sizePos now b ps fit p (omega arith)))))
       gather-fell [] (t ∷ ts) h p d e q = absurd (omega (arith, h .same))
       gather-fell (a ∷ ds) [] h p d e q = absurd (omega (arith, h .same))
       gather-fell (a ∷ ds) (t ∷ ts) h p d e q =
           rw (first-more (suc now) (t ∷ ts) (omega arith))
-          (Fell.more q (le-refl _)
+          (Fell.more (here p) q (le-refl _)
           (fell-up (cur-falls num (countSteps F) x sizePos now b ps fit p (suc p) (omega arith))
-          (h .fell (omega arith) (suc p) (omega arith))))
+          (fell-known (wrote-next now ps) (h .fell (omega arith) (suc p) (omega arith)))))
 
       pub gathers : (page ds ts : List ℕ) → Holds (countSteps F) (countOrder F) (countImage F) page (cur num b x ps)
           → Counting now (cur num b x ps) ps ds ts
@@ -157,12 +191,12 @@ module _ (F : Form) (x : Count) where
       pub finish : (ds ts : List ℕ) → Counting (suc now) (cur num b x ps) ps ds ts → length ds ≡ countSteps F
           → lastOf ts ≡ suc now
           → (x .0 < product (F .bases)) × All (λ p. p .what .0 < product (F .bases)) ps
-          → Within (F .bases) (latest (writtenBefore (countSteps F) (firstOf ts)) x ps .0)
+          → Within (Wrote (lastOf ts) ps) (F .bases) (latest (writtenBefore (countSteps F) (firstOf ts)) x ps .0)
           (latest (begunBefore (lastOf ts)) x ps .0)
           (copyA (m F) ds) (copyB (m F) ds) (compare (copyA (m F) ds) (copyB (m F) ds))
       finish ds ts h l t below =
           rw (t, ← cur-first num (countSteps F) x sizePos now b ps fit)
-          (spanned F pos ds _ (cur num b x ps 0) (h .fell (omega arith) 0 (omega arith)) l
+          (spanned F (Wrote (suc now) ps) pos ds _ (cur num b x ps 0) (h .fell (omega arith) 0 (omega arith)) l
           (cur-below b ps 0 (product (F .bases)) (below .0) (below .1)))
 
     module _ (story : List Event) (now : ℕ) (page : List ℕ) (b : Bool) (ps : List (Write Count)) (sts : List Reading)

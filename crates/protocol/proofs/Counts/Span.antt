@@ -1,5 +1,5 @@
 -- One whole count read: from what it saw at each position, the span of the count that it shows.
-use mathlib.Core.Path.{_≡_, _∙_}
+use mathlib.Core.Path.{_≡_, sym, _∙_, subst}
 use mathlib.Core.List.{List}
 use Prim.Native.Nat.{ℕ, suc, _+_, _-_, _≤_, _<_}
 use native.Mathlib.Nat.{le-trans, zero-add}
@@ -16,28 +16,32 @@ use Rattle.protocol.specs.Form.{Form, m, countSteps}
 use Rattle.protocol.specs.Step.{copyA, copyB}
 use Rattle.protocol.proofs.Lists.Places.{getD-reverse}
 use Rattle.protocol.proofs.Positions.Counts.{countImage, countDigitLow, countDigitHigh}
-use Rattle.protocol.proofs.Items.Seen.{Fell, seen, seen-digit, seen-hi, seen-lo, seen-falls}
+use Rattle.protocol.proofs.Items.Seen.{Fell, seen, seen-known, seen-digit, seen-hi, seen-lo, seen-falls}
 
--- both ends lie between lo and hi, and the copies are not crossed
-abbrev pub Within : (bs : List ℕ) (lo hi : ℕ) (a b : List ℕ) → Comparison → Type 0
-Within bs lo hi a b Equal = (lo ≤ value bs a) × (value bs a ≤ hi)
-Within bs lo hi a b (Parted p) = (lo ≤ lowEnd bs p a .0) × (lowEnd bs p a .0 < highEnd bs p b .0) × (highEnd bs p b .0 ≤ hi)
-Within bs lo hi a b Crossed = ⊥
+-- both ends lie between lo and hi, P is known of the number of equal copies, and the copies are not crossed
+abbrev pub Within : (P : ℕ → Type 0) (bs : List ℕ) (lo hi : ℕ) (a b : List ℕ) → Comparison → Type 0
+Within P bs lo hi a b Equal = (lo ≤ value bs a) × (value bs a ≤ hi) × P (value bs a)
+Within P bs lo hi a b (Parted p) =
+    (lo ≤ lowEnd bs p a .0) × (lowEnd bs p a .0 < highEnd bs p b .0) × (highEnd bs p b .0 ≤ hi)
+Within P bs lo hi a b Crossed = ⊥
 
-widen :
-    (bs : List ℕ) (lo lo′ mid hi hi′ : ℕ) (a b : List ℕ) (c : Comparison) → lo′ ≤ lo → hi ≤ hi′ →
-    Spans bs lo mid hi a b c → Within bs lo′ hi′ a b c
-widen bs lo lo′ mid hi hi′ a b Equal h g s = (omega (arith, s .shown, s .from-lo), omega (arith, s .shown, s .to-hi))
-widen bs lo lo′ mid hi hi′ a b (Parted p) h g s = (le-trans h (s .from-lo), s .low-high, le-trans (s .to-hi) g)
-widen bs lo lo′ mid hi hi′ a b Crossed h g s = s
+module _ (P : ℕ → Type 0) where
+  widen :
+      (bs : List ℕ) (lo lo′ mid hi hi′ : ℕ) (a b : List ℕ) (c : Comparison) → lo′ ≤ lo → hi ≤ hi′ → P mid →
+      Spans bs lo mid hi a b c → Within P bs lo′ hi′ a b c
+  widen bs lo lo′ mid hi hi′ a b Equal h g x s =
+      (omega (arith, s .shown, s .from-lo), omega (arith, s .shown, s .to-hi), subst P (sym (s .shown)) x)
+  widen bs lo lo′ mid hi hi′ a b (Parted p) h g x s = (le-trans h (s .from-lo), s .low-high, le-trans (s .to-hi) g)
+  widen bs lo lo′ mid hi hi′ a b Crossed h g x s = s
 
-module _ (F : Form) (pos : 0 < m F) where
+module _ (F : Form) (P : ℕ → Type 0) (pos : 0 < m F) where
   pub spanned :
-      (ds : List ℕ) (lo hi : ℕ) → Fell (countImage F) 0 ds lo hi → length ds ≡ countSteps F → hi < product (F .bases) →
-      Within (F .bases) lo hi (copyA (m F) ds) (copyB (m F) ds) (compare (copyA (m F) ds) (copyB (m F) ds))
+      (ds : List ℕ) (lo hi : ℕ) → Fell P (countImage F) 0 ds lo hi → length ds ≡ countSteps F → hi < product (F .bases) →
+      Within P (F .bases) lo hi (copyA (m F) ds) (copyB (m F) ds) (compare (copyA (m F) ds) (copyB (m F) ds))
   spanned ds lo hi f size below =
-      widen (F .bases) (seen f (m F + (m F - 1))) lo (seen f (m F)) (seen f 0) hi (copyA (m F) ds) (copyB (m F) ds)
+      widen P (F .bases) (seen f (m F + (m F - 1))) lo (seen f (m F)) (seen f 0) hi (copyA (m F) ds) (copyB (m F) ds)
       (compare (copyA (m F) ds) (copyB (m F) ds)) (seen-lo f (m F + (m F - 1))) (seen-hi f 0)
+      (seen-known f (m F) (omega arith))
       (span-reads (F .bases) (copyA (m F) ds) (copyB (m F) ds) (λ k. seen f (m F + (m F - suc k))) (λ k. seen f k)
       (seen f (m F)) readA upA readB downB pos (omega (arith, seen-hi f 0)))
     where

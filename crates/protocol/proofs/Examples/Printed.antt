@@ -1,4 +1,4 @@
--- Document 01's printed run.
+-- Document 01's printed run, whose last step ends between 4 and 7.
 use mathlib.Core.Path.{_≡_, refl}
 use mathlib.Core.List.{List, [], _∷_, _++_}
 use Prim.Native.Nat.{ℕ}
@@ -7,7 +7,7 @@ use Rattle.protocol.specs.Form.{Form}
 use Rattle.protocol.specs.State.{opened}
 use Rattle.protocol.specs.Run.{openPage, Execution, Ran, RunOver, logAfter}
 use Rattle.protocol.specs.Demand.{storyOf}
-use Rattle.protocol.specs.declared.Outcome.the-variants.{Nothing, Shown, Accepted}
+use Rattle.protocol.specs.declared.Outcome.the-variants.{Nothing, Accepted, Between}
 use Rattle.protocol.specs.declared.Ending.the-variants.{Finished}
 use Rattle.protocol.proofs.Examples.Common.{
   executes,
@@ -31,16 +31,16 @@ given =
     5 ∷ 0 ∷ 2 ∷ 6 ∷ 0 ∷ 6 ∷ 0 ∷ 2 ∷ 0 ∷ 0 ∷ 3 ∷ 3 ∷ 3 ∷ 6 ∷ 0 ∷ 6 ∷ 0 ∷ 3 ∷ 6 ∷ 0 ∷ 6 ∷ 0 ∷ 6 ∷ 0 ∷ 6 ∷ 0
     ∷ 1 ∷ 0 ∷ 0 ∷ 0 ∷ 0 ∷ 0 ∷ 0 ∷ 0 ∷ 7 ∷ 4 ∷ 0 ∷ 6 ∷ 0 ∷ 3 ∷ 3 ∷ 6 ∷ 0 ∷ []
 
--- a log of 17 bytes is just enough
+-- a log of 25 bytes is just enough
 unfoldable pub printed : Execution
 unfolding executes
-printed = executes small (0x62 ∷ 0x62 ∷ []) 17 (opened small (count 4) (0x61 ∷ 0x61 ∷ [])) given
+printed = executes small (0x62 ∷ 0x62 ∷ []) 25 (opened small (count 4) (0x61 ∷ 0x61 ∷ [])) given
 
 pub printed-outcomes : outcomes printed
     ≡ replicate 13 Nothing
     ++ (Accepted 0 2 (version 1) ∷ [])
     ++ replicate 5 Nothing
-    ++ (Shown 0 (count 7) ∷ [])
+    ++ (Between 0 (count 4) (count 7) ∷ [])
 unfolding printed
 printed-outcomes = refl
 
@@ -53,7 +53,7 @@ printed-end = (refl, refl, refl)
 
 -- the same through the opening and the run, over memory that was lent with anything in it
 abbrev pub printedRuns : List RunOver
-printedRuns = over (0x62 ∷ 0x62 ∷ []) 20 given ∷ []
+printedRuns = over (0x62 ∷ 0x62 ∷ []) 28 given ∷ []
 
 unfoldable pub printedRan : List Ran
 unfolding ran
@@ -62,7 +62,7 @@ printedRan = ran small (count 4) (0x61 ∷ 0x61 ∷ []) printedRuns
 pub printed-run : (openPage small (lent small) (count 4) (0x61 ∷ 0x61 ∷ []) .ending ≡ Finished)
     × (storyOf printedRan ≡ printed .events)
     × (endings printedRan ≡ Finished ∷ [])
-    × (logAfter (storyOf printedRan) (replicate 20 9)
-    ≡ 2 ∷ 0 ∷ 2 ∷ 0 ∷ 0 ∷ 0 ∷ 1 ∷ 1 ∷ 0 ∷ 0 ∷ 0 ∷ 0 ∷ 0 ∷ 0 ∷ 0 ∷ 0 ∷ 7 ∷ 9 ∷ 9 ∷ 9 ∷ [])
+    × (logAfter (storyOf printedRan) (replicate 28 9)
+    ≡ 2 ∷ 0 ∷ 2 ∷ 0 ∷ 0 ∷ 0 ∷ 1 ∷ 4 ∷ 0 ∷ 0 ∷ 0 ∷ 0 ∷ 0 ∷ 0 ∷ 0 ∷ 0 ∷ 4 ∷ 0 ∷ 0 ∷ 0 ∷ 0 ∷ 0 ∷ 0 ∷ 0 ∷ 7 ∷ 9 ∷ 9 ∷ 9 ∷ [])
 unfolding printed printedRan
 printed-run = (refl, refl, refl, refl)

@@ -7,7 +7,7 @@ use lib.ListN.{replicate}
 use Rattle.protocol.specs.Form.{Form}
 use Rattle.protocol.specs.State.{resting, idle, ofCount, ofRecord, State, stateOf, opened}
 use Rattle.protocol.specs.Run.{Execution}
-use Rattle.protocol.specs.declared.Outcome.the-variants.{Nothing, Shown, Accepted, GaveUp}
+use Rattle.protocol.specs.declared.Outcome.the-variants.{Nothing, Accepted, GaveUp, Between}
 use Rattle.protocol.proofs.Examples.Common.{
   executes,
   count,
@@ -91,10 +91,10 @@ later-pages = refl
 abbrev pub tens : State
 tens = still (20 ∷ 21 ∷ 22 ∷ 23 ∷ 24 ∷ 25 ∷ 26 ∷ 27 ∷ 28 ∷ 29 ∷ [])
 
--- positions 0 1, 3 2; a = 20 21 is below b = 22 23 in the first place, so 22 × 60 is shown
+-- positions 0 1, 3 2; a = 20 21 is below b = 22 23 in the first place: between 20 × 60 + 59 and 22 × 60
 unfoldable pub counting : Execution
 unfolding executes
-counting = executes (twos 50 60) [] 10 tens (beginCount 0 ++ read 0 4)
+counting = executes (twos 50 60) [] 18 tens (beginCount 0 ++ read 0 4)
 
 pub counting-steps : readings 0 counting
     ≡ (ofCount [], 0 ∷ 0 ∷ [])
@@ -106,9 +106,9 @@ pub counting-steps : readings 0 counting
 unfolding counting
 counting-steps = refl
 
-pub counting-shows : outcomes counting ≡ replicate 4 Nothing ++ (Shown 0 (count 1320) ∷ [])
+pub counting-ends : outcomes counting ≡ replicate 4 Nothing ++ (Between 0 (count 1259) (count 1320) ∷ [])
 unfolding counting
-counting-shows = refl
+counting-ends = refl
 
 -- positions 8 9, 6 7, 5 4, and once more; 28 29 is not 24 25, so the second of two attempts gives up, with zeros
 unfoldable pub attempting : Execution

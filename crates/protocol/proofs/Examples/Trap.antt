@@ -1,12 +1,12 @@
 -- Document 01's trap of two overlapping readers: reader 0 gathers a = 099; 150 is written; reader 1 shows 150; then
--- reader 0 shows 100.
+-- reader 0 ends between 99 and 100.
 use mathlib.Core.Path.{_≡_, refl}
 use mathlib.Core.List.{[], _∷_, _++_}
 use lib.ListN.{replicate}
 use Rattle.protocol.specs.Form.{Form}
 use Rattle.protocol.specs.State.{opened}
 use Rattle.protocol.specs.Run.{Execution}
-use Rattle.protocol.specs.declared.Outcome.the-variants.{Nothing, Shown}
+use Rattle.protocol.specs.declared.Outcome.the-variants.{Nothing, Shown, Between}
 use Rattle.protocol.proofs.Examples.Common.{executes, count, outcomes, announceCount, write, beginCount, read}
 
 abbrev pub three : Form
@@ -15,10 +15,10 @@ three = record { bases = 10 ∷ 10 ∷ 10 ∷ []; q = 1; base = 10; n = 1; reade
 unfoldable pub trap : Execution
 unfolding executes
 trap =
-    executes three [] 20 (opened three (count 99) (0 ∷ []))
+    executes three [] 28 (opened three (count 99) (0 ∷ []))
     (beginCount 0 ++ beginCount 1 ++ read 0 3 ++ announceCount 150 ++ write 6 ++ read 1 6 ++ read 0 3)
 
 pub trap-outcomes : outcomes trap
-    ≡ replicate 17 Nothing ++ (Shown 1 (count 150) ∷ Nothing ∷ Nothing ∷ Shown 0 (count 100) ∷ [])
+    ≡ replicate 17 Nothing ++ (Shown 1 (count 150) ∷ Nothing ∷ Nothing ∷ Between 0 (count 99) (count 100) ∷ [])
 unfolding trap
 trap-outcomes = refl

@@ -28,52 +28,67 @@ holds-set size places image page c c′ s v apart inside h here there holds k g 
         ∙ holds k g ∙ ap (λ n. getD (image n) k 0) (sym (there k g d))
 
 -- A READING from the last position down to position p: the digits, latest first, each of a number that stood there;
--- the numbers never fall with time, from lo up to hi. How steps make them so stands apart (Writes).
-pub data Fell (image : ℕ → List ℕ) : ℕ → List ℕ → ℕ → ℕ → Type 0 where
-  none : {p lo hi : ℕ} → lo ≤ hi → Fell image p [] lo hi
-  more : {p v lo hi d : ℕ} {ds : List ℕ} → d ≡ getD (image v) p 0 → v ≤ hi → Fell image (suc p) ds lo v
-      → Fell image p (d ∷ ds) lo hi
+-- the numbers never fall with time, from lo up to hi, and P is known of each. How steps make them so stands apart
+-- (Writes).
+pub data Fell (P : ℕ → Type 0) (image : ℕ → List ℕ) : ℕ → List ℕ → ℕ → ℕ → Type 0 where
+  none : {p lo hi : ℕ} → lo ≤ hi → Fell P image p [] lo hi
+  more : {p v lo hi d : ℕ} {ds : List ℕ} → P v → d ≡ getD (image v) p 0 → v ≤ hi → Fell P image (suc p) ds lo v
+      → Fell P image p (d ∷ ds) lo hi
 
-pub fell-up : {image : ℕ → List ℕ} {p lo hi hi′ : ℕ} {ds : List ℕ} → hi ≤ hi′ → Fell image p ds lo hi
-    → Fell image p ds lo hi′
-fell-up h (none g) = none (le-trans g h)
-fell-up h (more e g f) = more e (le-trans g h) f
+-- nothing is known
+abbrev pub Unknown : ℕ → Type 0
+Unknown v = Unit {0}
 
-pub fell-le : {image : ℕ → List ℕ} {p lo hi : ℕ} {ds : List ℕ} → Fell image p ds lo hi → lo ≤ hi
-fell-le (none g) = g
-fell-le (more e g f) = le-trans (fell-le f) g
+pub fell-known : {P Q : ℕ → Type 0} {image : ℕ → List ℕ} {p lo hi : ℕ} {ds : List ℕ} → ((v : ℕ) → P v → Q v)
+    → Fell P image p ds lo hi → Fell Q image p ds lo hi
+fell-known q (none g) = none g
+fell-known q (more {v} x e g f) = more (q v x) e g (fell-known q f)
 
--- the numbers seen, as a function of the position counted from p
-pub seen : {image : ℕ → List ℕ} {p lo hi : ℕ} {ds : List ℕ} → Fell image p ds lo hi → ℕ → ℕ
-seen {hi = hi} (none g) k = hi
-seen (more {v} e g f) zero = v
-seen (more e g f) (suc k) = seen f k
+module _ {P : ℕ → Type 0} {image : ℕ → List ℕ} where
+  pub fell-up : {p lo hi hi′ : ℕ} {ds : List ℕ} → hi ≤ hi′ → Fell P image p ds lo hi → Fell P image p ds lo hi′
+  fell-up h (none g) = none (le-trans g h)
+  fell-up h (more x e g f) = more x e (le-trans g h) f
 
-module _ {image : ℕ → List ℕ} where
-  pub seen-digit : {p lo hi : ℕ} {ds : List ℕ} (f : Fell image p ds lo hi) (k : ℕ) → k < length ds
+  pub fell-le : {p lo hi : ℕ} {ds : List ℕ} → Fell P image p ds lo hi → lo ≤ hi
+  fell-le (none g) = g
+  fell-le (more x e g f) = le-trans (fell-le f) g
+
+  -- the numbers seen, as a function of the position counted from p
+  pub seen : {p lo hi : ℕ} {ds : List ℕ} → Fell P image p ds lo hi → ℕ → ℕ
+  seen {hi = hi} (none g) k = hi
+  seen (more {v} x e g f) zero = v
+  seen (more x e g f) (suc k) = seen f k
+
+  pub seen-known : {p lo hi : ℕ} {ds : List ℕ} (f : Fell P image p ds lo hi) (k : ℕ) → k < length ds → P (seen f k)
+  unfolding seen
+  seen-known (none g) k h = absurd (omega arith)
+  seen-known (more x e g f) zero h = x
+  seen-known (more x e g f) (suc k) h = seen-known f k (omega arith)
+
+  pub seen-digit : {p lo hi : ℕ} {ds : List ℕ} (f : Fell P image p ds lo hi) (k : ℕ) → k < length ds
       → getD ds k 0 ≡ getD (image (seen f k)) (p + k) 0
   unfolding seen
   seen-digit (none g) k h = absurd (omega arith)
-  seen-digit {p} (more e g f) zero h = rw add-zero e
-  seen-digit {p} (more e g f) (suc k) h =
+  seen-digit {p} (more x e g f) zero h = rw add-zero e
+  seen-digit {p} (more x e g f) (suc k) h =
       seen-digit f k (omega arith) ∙ ap (λ i. getD (image (seen f k)) i 0) (omega arith)
 
-  pub seen-hi : {p lo hi : ℕ} {ds : List ℕ} (f : Fell image p ds lo hi) (k : ℕ) → seen f k ≤ hi
+  pub seen-hi : {p lo hi : ℕ} {ds : List ℕ} (f : Fell P image p ds lo hi) (k : ℕ) → seen f k ≤ hi
   unfolding seen
   seen-hi (none g) k = le-refl _
-  seen-hi (more e g f) zero = g
-  seen-hi (more e g f) (suc k) = le-trans (seen-hi f k) g
+  seen-hi (more x e g f) zero = g
+  seen-hi (more x e g f) (suc k) = le-trans (seen-hi f k) g
 
-  pub seen-lo : {p lo hi : ℕ} {ds : List ℕ} (f : Fell image p ds lo hi) (k : ℕ) → lo ≤ seen f k
+  pub seen-lo : {p lo hi : ℕ} {ds : List ℕ} (f : Fell P image p ds lo hi) (k : ℕ) → lo ≤ seen f k
   unfolding seen
   seen-lo (none g) k = g
-  seen-lo (more e g f) zero = fell-le f
-  seen-lo (more e g f) (suc k) = seen-lo f k
+  seen-lo (more x e g f) zero = fell-le f
+  seen-lo (more x e g f) (suc k) = seen-lo f k
 
-  pub seen-falls : {p lo hi : ℕ} {ds : List ℕ} (f : Fell image p ds lo hi) (j k : ℕ) → j ≤ k → seen f k ≤ seen f j
+  pub seen-falls : {p lo hi : ℕ} {ds : List ℕ} (f : Fell P image p ds lo hi) (j k : ℕ) → j ≤ k → seen f k ≤ seen f j
   unfolding seen
   seen-falls (none g) j k h = le-refl _
-  seen-falls (more e g f) zero zero h = le-refl _
-  seen-falls (more e g f) zero (suc k) h = seen-hi f k
-  seen-falls (more e g f) (suc j) zero h = absurd (omega arith)
-  seen-falls (more e g f) (suc j) (suc k) h = seen-falls f j k (omega arith)
+  seen-falls (more x e g f) zero zero h = le-refl _
+  seen-falls (more x e g f) zero (suc k) h = seen-hi f k
+  seen-falls (more x e g f) (suc j) zero h = absurd (omega arith)
+  seen-falls (more x e g f) (suc j) (suc k) h = seen-falls f j k (omega arith)

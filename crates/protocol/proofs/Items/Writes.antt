@@ -1,6 +1,6 @@
 -- One item, count or record, written by writes one at a time: which number stands at each position, over time.
 use mathlib.Core.Path.{_≡_, refl, sym}
-use mathlib.Core.Logic.{_≢_}
+use mathlib.Core.Logic.{_≢_, inl, inr}
 use mathlib.Core.List.{List, [], _∷_}
 use mathlib.Core.Bool.{Bool, true, false, _&&_, cond}
 use Prim.Native.Nat.{ℕ, suc, _≤_, _<_}
@@ -11,8 +11,9 @@ use lib.ListN.{length}
 use borrow.Author.Tests.{eq-eqb, ne-eqb, ltb-true, ltb-false, lt-ltb, le-ltb}
 use Rattle.protocol.specs.Lists.{All}
 use Rattle.protocol.specs.History.{Write, begun}
-use Rattle.protocol.specs.Demand.{lastOf, firstOf, writtenBefore, begunBefore, latest}
+use Rattle.protocol.specs.Demand.{lastOf, firstOf, writtenBefore, begunBefore, latest, Begun}
 use Rattle.protocol.proofs.Lists.Cases.{by-cond, all-map}
+use Rattle.protocol.proofs.Items.Begun.{begun-now, wrote-more, wrote-on}
 use Rattle.protocol.proofs.Items.Times.{Desc, none, desc-le, desc-now, first-le, last-le, first-more}
 
 module _ {A : Type 0} where
@@ -51,6 +52,7 @@ module _ {A : Type 0} (num : A → ℕ) where
     pub full : (t : ℕ) → t ≤ suc now
         → num (latest (writtenBefore size t) x ps′) ≡ num (latest (writtenBefore size t) x ps)
     pub first : (t : ℕ) → t ≤ suc now → num (latest (begunBefore t) x ps′) ≡ num (latest (begunBefore t) x ps)
+    pub kept : (t : ℕ) (a : A) → Begun t x ps a → Begun t x ps′ a
 
   module _ (size : ℕ) (x : A) (pos : 0 < size) where
     full-later : (now : ℕ) (ps : List (Write A)) → All (Full size now) ps → All (Full size (suc now)) ps
@@ -111,6 +113,24 @@ module _ {A : Type 0} (num : A → ℕ) where
         go true e = rw (e, lt-ltb (firstOf (p .steps)) (suc now) (omega (arith, first-le (f .1))))
         go false e = rw e (sym (all-begun now ps (f .3)))
 
+    -- whatever stands anywhere, somebody wrote it
+    module _ (now : ℕ) (Q : ℕ → Type 0) where
+      abbrev Told : List (Write A) → Type 0
+      Told ps = (a : A) → Begun (suc now) x ps a → Q (num a)
+
+      top-begun : (ps : List (Write A)) → All (Full size now) ps → Told ps → Q (top x ps)
+      top-begun [] f q = q x (inl refl)
+      top-begun (p ∷ ps) f q = q (p .what) (inr (inl (refl, begun-now now p (omega arith) (f .0 .1))))
+
+      pub cur-begun : (b : Bool) (ps : List (Write A)) → Fit size now x b ps → Told ps → (k : ℕ) → Q (cur b x ps k)
+      cur-begun false ps f q k = top-begun ps f q
+      cur-begun true [] f q k = absurd f
+      cur-begun true (p ∷ ps) f q k =
+          by-cond Q (ltb k (length (p .steps)))
+          (λ c. q (p .what)
+          (inr (inl (refl, begun-now now p (omega (arith, ltb-true k (length (p .steps)) c)) (f .1)))))
+          (λ c. top-begun ps (f .3) (λ a b. q a (wrote-more (suc now) x a p ps b)))
+
     -- a write is begun: nothing of the item changes
     pub begin-fit : (now : ℕ) (v : A) (ps : List (Write A)) → Fit size now x false ps → top x ps ≤ num v
         → Fit size (suc now) x true (begun v ∷ ps)
@@ -124,10 +144,11 @@ module _ {A : Type 0} (num : A → ℕ) where
       up = λ k. rw (begin-cur v ps k) (le-refl _);
       full = λ t h. rw (ne-eqb 0 size (omega arith));
       first = λ t h. refl;
+      kept = λ t a. wrote-more t x a (begun v) ps;
     }
 
     pub same-grow : (now : ℕ) (b : Bool) (ps : List (Write A)) → Grow size x now b ps b ps
-    same-grow now b ps = record { up = λ k. le-refl _; full = λ t h. refl; first = λ t h. refl }
+    same-grow now b ps = record { up = λ k. le-refl _; full = λ t h. refl; first = λ t h. refl; kept = λ t a b. b }
 
     pub step-fit : (now : ℕ) (p : Write A) (ps : List (Write A)) → Fit size now x true (p ∷ ps) → (t : Bool)
         → still size p ≡ t
@@ -198,4 +219,9 @@ module _ {A : Type 0} (num : A → ℕ) where
         → still size p ≡ t
         → Grow size x now true (p ∷ ps) t (on p (suc now) ∷ ps)
     step-grow now p ps f t e =
-        record { up = step-up now p ps f t e; full = step-full now p ps f; first = step-begun now p ps f }
+        record {
+          up = step-up now p ps f t e;
+          full = step-full now p ps f;
+          first = step-begun now p ps f;
+          kept = λ u a. wrote-on u x a (suc now) p ps;
+        }

@@ -78,6 +78,10 @@ module _ {A : Type 0} (P : A → Type 0) where
   all-split [] a r h = (tt, h .0)
   all-split (b ∷ l) a r h = let z = all-split l a r (h .1) in ((h .0, z .0), z .1)
 
+  pub all-append : (l r : List A) → All P l → All P r → All P (l ++ r)
+  all-append [] r h g = g
+  all-append (a ∷ l) r h g = (h .0, all-append l r (h .1) g)
+
   pub all-set : (l : List A) (i : ℕ) (a : A) → All P l → P a → All P (set l i a)
   all-set [] i a h p = tt
   all-set (x ∷ l) zero a h p = (p, h .1)

@@ -16,7 +16,7 @@ use Rattle.protocol.specs.History.{Write, Placed, openingPlace, placed}
 use Rattle.protocol.specs.Demand.{firstOf}
 use Rattle.protocol.proofs.Items.Times.{desc-now, first-le, first-more}
 use Rattle.protocol.proofs.Items.Writes.{Fit, cur-falls, cur-last}
-use Rattle.protocol.proofs.Items.Seen.{Holds, Fell, fell-up}
+use Rattle.protocol.proofs.Items.Seen.{Holds, Unknown, Fell, fell-up}
 use Rattle.protocol.proofs.Positions.Records.{
   recordImage,
   readV2,
@@ -93,18 +93,18 @@ module _ (F : Form) (r₀ : List ℕ) (pos : 0 < F .q) (posn : 0 < F .n) (size�
       -- v2
       fell-next :
           (s d : ℕ) (ds ts : List ℕ) → length ts ≡ s → length ds ≡ s →
-          (0 < s → (p : ℕ) → p + s ≡ recordSteps F → Fell image p ds (lo ts) (c p)) → (p : ℕ) →
+          (0 < s → (p : ℕ) → p + s ≡ recordSteps F → Fell Unknown image p ds (lo ts) (c p)) → (p : ℕ) →
           p + suc s ≡ recordSteps F → d ≡ getD (image (c p)) p 0 →
-          Fell image p (d ∷ ds) (lo (suc now ∷ ts)) (c p)
+          Fell Unknown image p (d ∷ ds) (lo (suc now ∷ ts)) (c p)
       fell-next s d [] [] e l f p h q =
-          Fell.more q (le-refl _)
+          Fell.more tt q (le-refl _)
           (Fell.none
           (le-of-eq (sym (cur-last number (recordSteps F) (placed openingPlace r₀) sizePos now b ps fit p (omega arith)))))
       fell-next s d [] (t ∷ ts) e l f p h q = absurd (omega arith)
       fell-next s d (a ∷ ds) [] e l f p h q = absurd (omega arith)
       fell-next s d (a ∷ ds) (t ∷ ts) e l f p h q =
           rw (first-more (suc now) (t ∷ ts) (omega arith))
-          (Fell.more q (le-refl _)
+          (Fell.more tt q (le-refl _)
           (fell-up (falls p (suc p) (omega arith)) (f (omega arith) (suc p) (omega arith))))
 
       module _ (s : ℕ) (ds ts buffer : List ℕ) (h : Trying F r₀ now c ps G r s ds ts buffer) where
@@ -113,7 +113,7 @@ module _ (F : Form) (r₀ : List ℕ) (pos : 0 < F .q) (posn : 0 < F .n) (size�
 
         Early : Type 0
         Early =
-            (length ds ≡ s) × (0 < s → (p : ℕ) → p + s ≡ recordSteps F → Fell image p ds (lo ts) (c p))
+            (length ds ≡ s) × (0 < s → (p : ℕ) → p + s ≡ recordSteps F → Fell Unknown image p ds (lo ts) (c p))
 
         early-of : s < F .q → Phase F r₀ c ps G r now (lo ts) ts s ds buffer → Early
         unfolding Early
@@ -238,5 +238,5 @@ module _ (F : Form) (r₀ : List ℕ) (pos : 0 < F .q) (posn : 0 < F .n) (size�
                 late I J t p d2 (d ∷ d1) (ap (λ (l : List ℕ). d ∷ l) z)
                 (omega arith, a .1, omega arith, omega arith, a .4) f at
                 (rw (firsts (omega arith)) (k .0), omega arith) y
-                (Fell.more (digit-low s p l (omega arith)) (le-refl _)
+                (Fell.more tt (digit-low s p l (omega arith)) (le-refl _)
                 (fell-up (falls p (suc p) (omega arith)) x))

@@ -12,7 +12,7 @@ use Rattle.protocol.specs.Step.{copyA, copyB}
 use Rattle.protocol.specs.History.{Write, Placed, openingPlace, placed}
 use Rattle.protocol.specs.Demand.{firstOf, begunBefore, latest}
 use Rattle.protocol.proofs.Items.Writes.{Fit, cur-first}
-use Rattle.protocol.proofs.Items.Seen.{Fell, fell-le}
+use Rattle.protocol.proofs.Items.Seen.{Unknown, Fell, fell-le}
 use Rattle.protocol.proofs.Linearization.Marks.{Mark, pending, At}
 use Rattle.protocol.proofs.Records.Versions.{below2, exact2, above1, exact1}
 use Rattle.protocol.proofs.Records.Numbered.{
@@ -61,8 +61,8 @@ module _ (F : Form) (r₀ : List ℕ) where
     bound = current-below F r₀ b ps 0 room num
 
     -- v2 as d2, v1 as d1
-    module _ (I J : ℕ) (d2 d1 : List ℕ) (f : Fell (versionImage F r₀) (F .q + F .n) d2 lo I)
-        (g : Fell (versionImage F r₀) 0 d1 J (c 0)) (l2 : length d2 ≡ F .q) (l1 : length d1 ≡ F .q) (le : I ≤ J) where
+    module _ (I J : ℕ) (d2 d1 : List ℕ) (f : Fell Unknown (versionImage F r₀) (F .q + F .n) d2 lo I)
+        (g : Fell Unknown (versionImage F r₀) 0 d1 J (c 0)) (l2 : length d2 ≡ F .q) (l1 : length d1 ≡ F .q) (le : I ≤ J) where
       abbrev W1 : ℕ
       W1 = value (versionBases F) d1
 

@@ -13,7 +13,7 @@ use Rattle.protocol.specs.Run.{Event}
 use Rattle.protocol.specs.History.{Write, Placed, openingPlace, placed, Read, Attempt}
 use Rattle.protocol.specs.Demand.{lastOf, firstOf, outcomeAt, bufferAt, Ends}
 use Rattle.protocol.specs.declared.Outcome.{Outcome}
-use Rattle.protocol.specs.declared.Outcome.the-variants.{Nothing, Shown, Accepted, GaveUp}
+use Rattle.protocol.specs.declared.Outcome.the-variants.{Nothing, Shown, Accepted, GaveUp, Between}
 use Rattle.protocol.proofs.Lists.Story.{snoc-old}
 use Rattle.protocol.proofs.Items.Times.{desc-le, first-le}
 use Rattle.protocol.proofs.Items.Writes.{Grow}
@@ -40,6 +40,7 @@ ends-old F story e y l (Shown r c) h = h
 ends-old F story e y l (Accepted r k v) h = h
 ends-old F story e y l (GaveUp r k) h =
     (h .0, h .1, h .2, h .3, buffer-old story e (lastOf (y .steps)) l r ∙ h .4)
+ends-old F story e y l (Between r a b) h = h
 
 module _ (F : Form) (r₀ : List ℕ) where
   pub record Ext (ok : ℕ → Type 0) (now : ℕ) (b : Bool) (ps : List (Write Placed)) (G : List Mark)

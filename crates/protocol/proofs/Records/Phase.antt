@@ -10,7 +10,7 @@ use Rattle.protocol.specs.History.{Write, Placed, openingPlace, placed, 
 use Rattle.protocol.specs.Demand.{firstOf, writtenBefore, latest}
 use Rattle.protocol.proofs.Positions.Records.{recordImage}
 use Rattle.protocol.proofs.Items.Times.{Desc}
-use Rattle.protocol.proofs.Items.Seen.{Fell}
+use Rattle.protocol.proofs.Items.Seen.{Unknown, Fell}
 use Rattle.protocol.proofs.Linearization.Marks.{Mark, pending, At}
 use Rattle.protocol.proofs.Records.Numbered.{number, recordAs}
 
@@ -34,17 +34,17 @@ module _ (F : Form) (r₀ : List ℕ) where
       (ts : List ℕ) (s : ℕ) (ds buffer : List ℕ) : Type 0 where
     early :
         (s < F .q) × (length ds ≡ s) →
-        (0 < s → (p : ℕ) → p + s ≡ recordSteps F → Fell versionImage p ds lo (c p)) →
+        (0 < s → (p : ℕ) → p + s ≡ recordSteps F → Fell Unknown versionImage p ds lo (c p)) →
         Phase c ps G r now lo ts s ds buffer
     middle :
         (I t : ℕ) → (F .q ≤ s) × (s < F .q + F .n) × (length ds ≡ F .q) × (I ≤ c (F .q + F .n)) →
-        Fell versionImage (F .q + F .n) ds lo I → At (pending r t) I G → (firstOf ts ≤ t) × (t ≤ now) →
+        Fell Unknown versionImage (F .q + F .n) ds lo I → At (pending r t) I G → (firstOf ts ≤ t) × (t ≤ now) →
         Bytes ps buffer I (c (F .q)) (s - F .q) → Phase c ps G r now lo ts s ds buffer
     late :
         (I J t p : ℕ) (d2 d1 : List ℕ) → ds ≡ d1 ++ d2 →
         (F .q + F .n ≤ s) × (length d2 ≡ F .q) × (length d1 + (F .q + F .n) ≡ s) × (p + length d1 ≡ F .q) × (I ≤ J) →
-        Fell versionImage (F .q + F .n) d2 lo I → At (pending r t) I G → (firstOf ts ≤ t) × (t ≤ now) →
-        Bytes ps buffer I J (F .n) → Fell versionImage p d1 J (c p) → Phase c ps G r now lo ts s ds buffer
+        Fell Unknown versionImage (F .q + F .n) d2 lo I → At (pending r t) I G → (firstOf ts ≤ t) × (t ≤ now) →
+        Bytes ps buffer I J (F .n) → Fell Unknown versionImage p d1 J (c p) → Phase c ps G r now lo ts s ds buffer
 
   pub record Trying (now : ℕ) (c : ℕ → ℕ) (ps : List (Write Placed)) (G : List Mark) (r s : ℕ)
       (ds ts buffer : List ℕ) : Type 0 where

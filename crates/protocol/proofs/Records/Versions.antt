@@ -10,7 +10,7 @@ use Rattle.radix.proofs.Theorems.Reads.{Reads, reads-below, reads-above}
 use Rattle.protocol.specs.Form.{Form, versionBases}
 use Rattle.protocol.proofs.Lists.Places.{getD-reverse}
 use Rattle.protocol.proofs.Positions.Records.{recordImage, length-versionBases, recordDigitLow, recordDigitHigh}
-use Rattle.protocol.proofs.Items.Seen.{Fell, seen, seen-digit, seen-hi, seen-lo, seen-falls}
+use Rattle.protocol.proofs.Items.Seen.{Unknown, Fell, seen, seen-digit, seen-hi, seen-lo, seen-falls}
 
 module _ (F : Form) (pos : 0 < F .q) (r : List ℕ) (size : length r ≡ F .n) where
   abbrev pub image : ℕ → List ℕ
@@ -23,7 +23,7 @@ module _ (F : Form) (pos : 0 < F .q) (r : List ℕ) (size : length r ≡ F .n) w
   sizeB = length-versionBases F
 
   -- v2: the numbers seen rise from left to right
-  module _ (d2 : List ℕ) (lo hi : ℕ) (f : Fell image (F .q + F .n) d2 lo hi) (l : length d2 ≡ F .q) where
+  module _ (d2 : List ℕ) (lo hi : ℕ) (f : Fell Unknown image (F .q + F .n) d2 lo hi) (l : length d2 ≡ F .q) where
     abbrev i2 : ℕ → ℕ
     i2 k = seen f (F .q - suc k)
 
@@ -53,7 +53,7 @@ module _ (F : Form) (pos : 0 < F .q) (r : List ℕ) (size : length r ≡ F .n) w
         }))
 
   -- v1: the numbers seen fall from left to right
-  module _ (d1 : List ℕ) (lo hi : ℕ) (f : Fell image 0 d1 lo hi) (l : length d1 ≡ F .q) where
+  module _ (d1 : List ℕ) (lo hi : ℕ) (f : Fell Unknown image 0 d1 lo hi) (l : length d1 ≡ F .q) where
     read1 : Reads bs d1 (seen f)
     read1 = record {
       size = l ∙ sym sizeB;

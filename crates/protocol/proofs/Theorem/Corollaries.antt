@@ -1,5 +1,6 @@
--- What follows from the claim: record reads end in time, and the next run starts.
-use mathlib.Core.Path.{_≡_, refl, subst}
+-- What follows from the claim: a count read whose span is one count shows it, record reads end in time, and the next run
+-- starts.
+use mathlib.Core.Path.{_≡_, refl, ap₂, subst}
 use mathlib.Core.Logic.{_≢_}
 use mathlib.Core.List.{List}
 use Prim.Native.Nat.{ℕ, _+_, _*_, _%_, _<_}
@@ -7,17 +8,47 @@ use native.Mathlib.Nat.{suc-mul, mul-le-mul-right}
 use native.Mathlib.Omega.{arith}
 use lib.ListN.{length, getD}
 use Rattle.radix.specs.declared.Count.{Count}
+use Rattle.radix.specs.Copies.{Choice}
 use Rattle.protocol.specs.Form.{Form, recordSteps}
 use Rattle.protocol.specs.State.{Reading, readingOf}
 use Rattle.protocol.specs.Outcome.{endingNumber}
 use Rattle.protocol.specs.Memory.{Memory}
 use Rattle.protocol.specs.Run.{openPage, Run, run, RunOver, runs, left}
-use Rattle.protocol.specs.History.{noRead, recordRead, History, fresh, history}
-use Rattle.protocol.specs.Demand.{acceptsOf, storyOf, Reads, readsRecord, Mild, Continues, Continued}
+use Rattle.protocol.specs.History.{Write, CountRead, noRead, recordRead, History, fresh, history}
+use Rattle.protocol.specs.Demand.{
+  acceptsOf,
+  storyOf,
+  firstOf,
+  lastOf,
+  writtenBefore,
+  begunBefore,
+  latest,
+  CountEnds,
+  Reads,
+  readsRecord,
+  Mild,
+  Continues,
+  Continued,
+}
 use Rattle.protocol.specs.declared.Ending.the-variants.{Finished}
+use Rattle.protocol.specs.declared.Outcome.{Outcome}
+use Rattle.protocol.specs.declared.Outcome.the-variants.{Nothing, Shown, Accepted, GaveUp, Between}
 use Rattle.protocol.proofs.Theorem.Runs.{run-on}
 use Rattle.protocol.proofs.Theorem.Opening.{opens, proper}
 use Rattle.protocol.proofs.Theorem.Claim.{leaves, general}
+
+-- where the span is one count, the read shows it, and is not between two
+pub shows-the-one :
+    (size : ℕ) (c₀ : Count) (cs : List (Write Count)) (x : CountRead) (c : ℕ) (o : Outcome) →
+    CountEnds size c₀ cs x o → latest (writtenBefore size (firstOf (x .steps))) c₀ cs .0 ≡ c →
+    latest (begunBefore (lastOf (x .steps))) c₀ cs .0 ≡ c → o ≡ Shown (x .reader) (record { 0 = c })
+shows-the-one size c₀ cs x c Nothing s from to = absurd s
+shows-the-one size c₀ cs x c (Shown r k) s from to =
+    ap₂ (λ i n. Shown i (record { 0 = n })) (s .0) (omega (arith, s .1 .low, s .1 .high, from, to))
+shows-the-one size c₀ cs x c (Accepted r k v) s from to = absurd s
+shows-the-one size c₀ cs x c (GaveUp r k) s from to = absurd s
+shows-the-one size c₀ cs x c (Between r low high) s from to =
+    absurd (omega (arith, s .1, s .2 Choice.low .low, s .2 Choice.high .high, from, to))
 
 still-reading :
     (F : Form) (w : ℕ) → w ≡ recordSteps F → (st : Reading) (a : ℕ) (es ts : List ℕ) →

@@ -1,4 +1,4 @@
--- A log with ten bytes for each byte of the commands never fills.
+-- A log with the longest entry's bytes for each byte of the commands never fills.
 use mathlib.Core.Path.{_≡_, refl, ap, _∙_}
 use mathlib.Core.List.{List}
 use mathlib.Core.Bool.{Bool, true, false}
@@ -10,11 +10,11 @@ use lib.Seq.{drop-length}
 use borrow.Author.Tests.{eqb-true, eqb-false}
 use Rattle.protocol.specs.Form.{Form}
 use Rattle.protocol.specs.State.{State}
-use Rattle.protocol.specs.Outcome.{endingNumber, entry}
+use Rattle.protocol.specs.Outcome.{endingNumber, entry, longest}
 use Rattle.protocol.specs.Run.{Execution, stop}
 use Rattle.protocol.specs.declared.Ending.the-variants.{Finished}
+use Rattle.protocol.proofs.Log.Entries.{entry-longest}
 use Rattle.protocol.proofs.Runs.Fuel.{full, full-over}
-use Rattle.page.proofs.Calls.Steps.{entry-most}
 use Rattle.report.proofs.Turns.One.{One, nothing, stops, goes, one}
 
 -- nothing is left
@@ -29,11 +29,11 @@ module _ (F : Form) (S : List ℕ) (s : List ℕ) where
 
   abbrev Says : ℕ → Type 0
   Says k =
-      (at room : ℕ) (σ : State) → at ≤ length s → length s - at ≤ k → 10 * (length s - at) ≤ room
+      (at room : ℕ) (σ : State) → at ≤ length s → length s - at ≤ k → longest * (length s - at) ≤ room
       → number (full F S room σ (drop at s)) < 12
 
   module _ (k at room : ℕ) (σ : State) (low : at < length s) (few : length s - at ≤ suc k)
-      (roomy : 10 * (length s - at) ≤ room) (again : Says k) where
+      (roomy : longest * (length s - at) ≤ room) (again : Says k) where
     by-one : One F S σ s at → number (full F S room σ (drop at s)) < 12
     by-one (nothing e u all) = omega (arith, ap number (all room))
     by-one (stops x next why e c small all) = omega (arith, ap number (all room))
@@ -42,7 +42,7 @@ module _ (F : Form) (S : List ℕ) (s : List ℕ) where
           arith,
           ap number (all room (omega arith)),
           again next (room - length (entry o)) τ (fits .1) (omega (arith, fits))
-              (omega (arith, fits, entry-most o)),
+              (omega (arith, fits, entry-longest o)),
         )
 
   pub never-full : (k : ℕ) → Says k

@@ -21,6 +21,7 @@ use Rattle.protocol.specs.declared.Ending.{Ending}
 use Rattle.protocol.specs.declared.Outcome.{Outcome}
 use Rattle.protocol.specs.declared.Refusal.{Refusal}
 use Rattle.protocol.specs.declared.Refusal.the-variants.{UnknownCommand}
+use Rattle.protocol.proofs.Log.Entries.{entry-longest}
 use Rattle.protocol.proofs.Allowed.Kept.{Fine}
 use Rattle.protocol.proofs.Allowed.Means.{holds}
 use Rattle.protocol.proofs.Memory.Stored.{load-stored, stored-valid, stored-lengths}
@@ -30,7 +31,6 @@ use Rattle.page.specs.declared.Answer.the-variants.{Done, Refused}
 use Rattle.page.specs.Carry.{After, onAnswer}
 use Rattle.page.specs.Calls.{startLent, anyRoom, onStart, stepLent, runLent}
 use Rattle.packed.specs.Kept.{Kept, unpackedOf, packedOver, runKept, stepKept}
-use Rattle.page.proofs.Calls.Steps.{entry-most}
 use Rattle.report.proofs.Printed.Holds.{Holds}
 
 module _
@@ -69,7 +69,7 @@ module _
     unfolding stepKept onAnswer
     step-done x τ o e =
         ap (λ (y : After). record { answer = y .answer; kept = packedOver K (y .memory) })
-        (steps x (done τ o) e ∙ rw (le-ltb anyRoom (length (entry o)) (omega (arith, entry-most o))))
+        (steps x (done τ o) e ∙ rw (le-ltb anyRoom (length (entry o)) (omega (arith, entry-longest o))))
 
     -- what is no command
     pub run-unknown : (s log : List ℕ) → decode s ≡ unknown

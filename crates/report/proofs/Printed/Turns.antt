@@ -10,7 +10,7 @@ use borrow.Author.Tests.{eqb-true, eqb-false}
 use Rattle.protocol.specs.Lists.{concat}
 use Rattle.protocol.specs.Form.{Form, goodForm}
 use Rattle.protocol.specs.State.{State}
-use Rattle.protocol.specs.Outcome.{entry}
+use Rattle.protocol.specs.Outcome.{entry, longest}
 use Rattle.protocol.specs.Memory.{stored}
 use Rattle.protocol.specs.Run.{Execution, Event, prepend, stop}
 use Rattle.protocol.specs.declared.Command.{Command}
@@ -19,6 +19,7 @@ use Rattle.protocol.specs.declared.Ending.the-variants.{Finished, Refused}
 use Rattle.protocol.specs.declared.Outcome.{Outcome}
 use Rattle.protocol.specs.declared.Refusal.{Refusal}
 use Rattle.protocol.specs.declared.Refusal.the-variants.{UnknownCommand}
+use Rattle.protocol.proofs.Log.Entries.{entry-longest}
 use Rattle.protocol.proofs.InRange.{in-range}
 use Rattle.protocol.proofs.Allowed.Kept.{Fine}
 use Rattle.protocol.proofs.Allowed.Carry.{kept}
@@ -27,7 +28,6 @@ use Rattle.codec.specs.Decode.{decodeAt}
 use Rattle.codec.specs.declared.Decoded.{Decoded}
 use Rattle.page.specs.declared.Answer.{Answer}
 use Rattle.packed.specs.Kept.{Kept, packedOver, runKept, SteppedKept, stepKept}
-use Rattle.page.proofs.Calls.Steps.{entry-most}
 use Rattle.report.specs.declared.Progress.{Progress}
 use Rattle.report.specs.Header.{Header, header}
 use Rattle.report.specs.Text.{outcomeLine, endLine}
@@ -99,7 +99,7 @@ module _
     abbrev Says : ℕ → Type 0
     Says k =
         (at d room : ℕ) (σ : State) (K : Kept) → Fine F S σ → Holds F K σ → at ≤ length s → d ≤ at
-        → length s - at < k → 10 * (length s - at) ≤ room
+        → length s - at < k → longest * (length s - at) ≤ room
         → turns k s (header x) (progress at d) K ≡ textOf d (full F S room σ (drop at s))
 
     step : (k : ℕ) (p : Progress) (K : Kept) (t : Turn) → turnOf s p K (header x) ≡ t
@@ -117,7 +117,7 @@ module _
         sum = omega (arith, ap length b)
 
     module _ (k at d room : ℕ) (σ : State) (K : Kept) (fine : Fine F S σ) (held : Holds F K σ) (low : at < length s)
-        (few : d ≤ at) (fuel : length s - at < suc k) (roomy : 10 * (length s - at) ≤ room) (again : Says k)
+        (few : d ≤ at) (fuel : length s - at < suc k) (roomy : longest * (length s - at) ≤ room) (again : Says k)
       where
         abbrev rest : List ℕ
         rest = drop at s
@@ -152,7 +152,7 @@ module _
             let all-after : full F S room σ rest ≡ prepend ev after = all room (omega arith) in
             let then : turns k s (header x) (progress next (d + 1)) K′ ≡ textOf (d + 1) after =
             again next (d + 1) (room - length (entry o)) τ K′ fine′ held′ (fits .1) (omega (arith, fits))
-            (omega (arith, fits)) (omega (arith, fits, entry-most o))
+            (omega (arith, fits)) (omega (arith, fits, entry-longest o))
             in
             step k p K (goneOn p next K τ o)
             (inside s p K x low few

@@ -9,7 +9,7 @@ use lib.ListN.{length, drop, replicate, length-drop, length-replicate}
 use Rattle.protocol.specs.Lists.{concat}
 use Rattle.protocol.specs.Form.{Form, countSteps, recordSteps}
 use Rattle.protocol.specs.State.{State, opened}
-use Rattle.protocol.specs.Outcome.{endingNumber}
+use Rattle.protocol.specs.Outcome.{endingNumber, longest}
 use Rattle.protocol.specs.Memory.{stored}
 use Rattle.protocol.specs.Run.{Ran, inMemory, run}
 use Rattle.protocol.specs.declared.Refusal.{Refusal}
@@ -49,7 +49,7 @@ module _ (more : Bool) (s : List ℕ) (K : Kept) (a : Accepted more s (headerIn 
   given = drop (headerIn s .commands) s
 
   abbrev room : ℕ
-  room = 10 * length given
+  room = longest * length given
 
   fine : Fine F S σ
   fine = fine-opened F S (headerIn s .count) (headerIn s .first) (in-range F (a .good)) (a .first-long)

@@ -55,7 +55,7 @@ use Rattle.protocol.specs.declared.Command.the-variants.{
   Cancel,
 }
 use Rattle.protocol.specs.declared.Outcome.{Outcome}
-use Rattle.protocol.specs.declared.Outcome.the-variants.{Nothing, Shown, Accepted, GaveUp}
+use Rattle.protocol.specs.declared.Outcome.the-variants.{Nothing, Shown, Accepted, GaveUp, Between}
 use Rattle.protocol.proofs.Lists.Cases.{by-cond}
 
 abbrev pub Within : ℕ → Outcome → Type 0
@@ -63,6 +63,7 @@ Within R Nothing = Unit {0}
 Within R (Shown r c) = r < R
 Within R (Accepted r k v) = r < R
 Within R (GaveUp r k) = r < R
+Within R (Between r low high) = r < R
 
 abbrev pub Answers : ℕ → Answer → Type 0
 Answers R (refused why) = refusalNumber why < 12

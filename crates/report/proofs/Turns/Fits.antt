@@ -16,7 +16,8 @@ use Rattle.protocol.specs.Load.{load}
 use Rattle.protocol.specs.declared.Command.{Command}
 use Rattle.protocol.specs.declared.Ending.{Ending}
 use Rattle.protocol.specs.declared.Outcome.{Outcome}
-use Rattle.protocol.specs.declared.Outcome.the-variants.{Nothing, Shown, Accepted, GaveUp}
+use Rattle.protocol.specs.declared.Outcome.the-variants.{Nothing, Shown, Accepted, GaveUp, Between}
+use Rattle.protocol.proofs.Log.Entries.{entry-longest}
 use Rattle.protocol.proofs.InRange.{in-range}
 use Rattle.protocol.proofs.Allowed.Kept.{Fine}
 use Rattle.protocol.proofs.Allowed.Means.{means}
@@ -28,7 +29,6 @@ use Rattle.page.specs.Carry.{Ready, After, onAnswer}
 use Rattle.page.specs.Calls.{startLent, anyRoom, onStart}
 use Rattle.packed.specs.Kept.{Kept, unpackedOf, stepKept}
 use Rattle.page.proofs.Calls.Begun.{begins}
-use Rattle.page.proofs.Calls.Steps.{entry-most}
 use Rattle.report.specs.Text.{OutcomeFits}
 use Rattle.report.proofs.Turns.Answers.{Within, carried-within}
 
@@ -39,6 +39,7 @@ fits-outcome n R buffers Nothing small size h = tt
 fits-outcome n R buffers (Shown r c) small size h = tt
 fits-outcome n R buffers (Accepted r k v) small size h = (small, omega (arith, mul-le-mul-right n h, suc-mul r n))
 fits-outcome n R buffers (GaveUp r k) small size h = tt
+fits-outcome n R buffers (Between r a b) small size h = tt
 
 same-outcome : {o u : Outcome} → Done o ≡ Done u → o ≡ u
 same-outcome e = cc
@@ -67,7 +68,7 @@ module _ (F : Form) (S : List ℕ) (L : Memory) (x : Command) where
   unfolding onAnswer
   by-answer ready (refused why) e = λ o q. absurd (let z : _≡_ {A = ℕ} 0 1 = cc in omega arith)
   by-answer ready (done τ o) e =
-      rw (le-ltb anyRoom (length (entry o)) (omega (arith, entry-most o)))
+      rw (le-ltb anyRoom (length (entry o)) (omega (arith, entry-longest o)))
       (λ u q. subst (OutcomeFits (F .n) (stored F τ .buffers)) (same-outcome q) (done-fits ready τ o e))
 
   by-start : (e : Ending) → startLent F S L ≡ e → Fits F (onStart F S L x e)

@@ -7,7 +7,7 @@ use lib.ListN.{length, drop}
 use borrow.Author.Tests.{le-ltb}
 use Rattle.protocol.specs.Form.{Form}
 use Rattle.protocol.specs.State.{State}
-use Rattle.protocol.specs.Outcome.{refusalNumber, entry}
+use Rattle.protocol.specs.Outcome.{refusalNumber, entry, longest}
 use Rattle.protocol.specs.Command.{unknown, decode}
 use Rattle.protocol.specs.Step.{Answer, refused, done, carry}
 use Rattle.protocol.specs.Run.{prepend, stop, answered}
@@ -16,11 +16,11 @@ use Rattle.protocol.specs.declared.Outcome.{Outcome}
 use Rattle.protocol.specs.declared.Refusal.{Refusal}
 use Rattle.protocol.specs.declared.Refusal.the-variants.{UnknownCommand}
 use Rattle.protocol.specs.declared.Ending.the-variants.{Refused}
+use Rattle.protocol.proofs.Log.Entries.{entry-longest}
 use Rattle.protocol.proofs.Runs.Fuel.{full, full-unknown, full-command}
 use Rattle.codec.specs.Decode.{decodeAt}
 use Rattle.codec.specs.declared.Decoded.{Decoded}
 use Rattle.codec.proofs.Next.{Next, Says, decoded}
-use Rattle.page.proofs.Calls.Steps.{entry-most}
 use Rattle.report.proofs.Turns.Answers.{carried-within}
 
 module _ (F : Form) (S : List ℕ) (σ : State) (s : List ℕ) (at : ℕ) where
@@ -35,17 +35,17 @@ module _ (F : Form) (S : List ℕ) (σ : State) (s : List ℕ) (at : ℕ) where
         → ((room : ℕ) → full F S room σ rest ≡ stop σ (Refused why)) → One
     goes : (x : Command) (next : ℕ) (τ : State) (o : Outcome) → decodeAt s at ≡ Decoded.Is x next
         → carry F S σ x ≡ done τ o
-        → ((room : ℕ) → 10 ≤ room → full F S room σ rest
+        → ((room : ℕ) → longest ≤ room → full F S room σ rest
         ≡ prepend (record { after = τ; outcome = o }) (full F S (room - length (entry o)) τ (drop next s)))
         → (at < next) × (next ≤ length s)
         → One
 
   -- with room enough
-  roomy : (room : ℕ) (t : List ℕ) (τ : State) (o : Outcome) → 10 ≤ room →
+  roomy : (room : ℕ) (t : List ℕ) (τ : State) (o : Outcome) → longest ≤ room →
       answered (full F S) room σ t (done τ o)
       ≡ prepend (record { after = τ; outcome = o }) (full F S (room - length (entry o)) τ t)
   unfolding answered
-  roomy room t τ o h = rw (le-ltb room (length (entry o)) (omega (arith, entry-most o)))
+  roomy room t τ o h = rw (le-ltb room (length (entry o)) (omega (arith, entry-longest o)))
 
   stopped : (room : ℕ) (t : List ℕ) (why : Refusal) →
       answered (full F S) room σ t (refused why) ≡ stop σ (Refused why)

@@ -1,7 +1,7 @@
 -- Each return is one kind of entry.
 use borrow.Author.Needs.{needs}
 use mathlib.Core.Path.{_∙_}
-use Rattle.codec.proofs.Found.{found-shown, found-accepted, found-gave, found-nothing}
+use Rattle.codec.proofs.Found.{found-shown, found-accepted, found-gave, found-between, found-nothing}
 use Rattle.codec.proofs.entries.outcome.Statement.{statement}
 use Rattle.codec.proofs.entries.outcome.Tie as tie
 
@@ -52,10 +52,33 @@ array-read-t31 c = search needs
 returns-3 : tie.Need-returns-3
 returns-3 c = found-gave (c .before .before .before .args .t1) (c .if3 .taken)
 
+array-read-t34 : tie.Need-array-read-t34
+array-read-t34 c = search needs
+
+slice-aggregate-number-at-3 : tie.Need-slice-aggregate-number-at-3
+slice-aggregate-number-at-3 c = search needs
+
+number-at-requires-3 : tie.Need-number-at-requires-3
+number-at-requires-3 c κs = search needs
+
+slice-aggregate-number-at-4 : tie.Need-slice-aggregate-number-at-4
+slice-aggregate-number-at-4 c = search needs
+
+number-at-requires-4 : tie.Need-number-at-requires-4
+number-at-requires-4 c κs = search needs
+
 returns-4 : tie.Need-returns-4
 returns-4 c =
-    let e = c .before .before in
-    found-nothing (e .before .args .t1) (e .if1 .left) (c .before .if2 .left) (c .if3 .left)
+    let n = c .before .before in
+    let t = n .before .before in
+    found-between (t .before .before .before .before .args .t1) (t .if4 .taken) (n .number-at3 .ensures .0)
+    (c .number-at4 .ensures .0)
+
+returns-5 : tie.Need-returns-5
+returns-5 c =
+    let e = c .before .before .before in
+    found-nothing (e .before .args .t1) (e .if1 .left) (c .before .before .if2 .left) (c .before .if3 .left)
+    (c .if4 .left)
 
 pub outcome-spec : {M : Type 1} → statement M
 outcome-spec =
@@ -75,4 +98,10 @@ outcome-spec =
     array-read-t28
     array-read-t31
     returns-3
-    returns-4)
+    array-read-t34
+    slice-aggregate-number-at-3
+    number-at-requires-3
+    slice-aggregate-number-at-4
+    number-at-requires-4
+    returns-4
+    returns-5)

@@ -43,6 +43,7 @@ use denote.Triple.Clauses.{Lasts, lasts}
 use denote.Triple.Table.{entered, cited}
 use denote.Triple.Walked.{Stays, walkOf, Walks, ends-at, walk-meets}
 use Rattle.protocol.specs.Memory.{Memory}
+use Rattle.protocol.specs.Outcome.{longest}
 use Rattle.protocol.specs.declared.Command.{Command}
 use Rattle.protocol.specs.declared.Reader.{Reader}
 use Rattle.protocol.proofs.Command as TX
@@ -146,7 +147,7 @@ module _ {M : Type 1} (𝓤 : URA M) (H : Heap 𝓤) (A : Atoms 𝓤) (W : Given
     ds = nine (encode x)
 
     abbrev es : List ℕ
-    es = replicate 10 0
+    es = replicate longest 0
 
     abbrev Post : Val → SProp 𝓤
     Post = walkOf 𝓤 H A f.ended stays (f.clauses 𝓤 H A mem run) .post ((κs, qs, tt, a, vs), tt)
@@ -241,16 +242,16 @@ module _ {M : Type 1} (𝓤 : URA M) (H : Heap 𝓤) (A : Atoms 𝓤) (W : Given
 
         -- all is done but to tell; local i is at 8 + i
         tells : (ys : List Reader) (p b : List ℕ) (z : Ran) (log : List ℕ) (u v w : Val) → Is RR z (v ∷ []) →
-            Is (Bytes 10) log (w ∷ []) → ranLent z (at-hand p (z .writer) ys b) log ≡ runLent F (rc .now) L ds es →
+            Is (Bytes longest) log (w ∷ []) → ranLent z (at-hand p (z .writer) ys b) log ≡ runLent F (rc .now) L ds es →
             Sq W (Ended ys p b ++ locals 𝓤 H E (Held free (has u ∷ has w ∷ has v ∷ [])))
             (runs C Λ E code-mir.t-15 (atRet E Post))
         tells ys p b z log u v w is is-log say =
             assigns ! (of-opd ! (load ! (from ! (stop !)) (look ! 18 refl))) (from ! (stop !))
-            (init ! 31 refl (typed-bytes 10 log w is-log)) $
+            (init ! 31 refl (typed-bytes longest log w is-log)) $
             asks-plain ! fm Tells known-tells ((tt, tt, tt, (z, (log, tt)), ((v ∷ []) & (w ∷ []) & tt)), tt)
             (asked 𝓤 H A W 0 tt tt (typesAt (k.signature .params) tt) (z, (log, tt)) ((v ∷ []) & (w ∷ []) & tt)
             (made (LL.makes TR.the-type TR′.the-plain 𝓤 H A) is &
-            made (array-makes 𝓤 H A W u8 (uint-makes 𝓤 H A W w8) 10) is-log & tt))
+            made (array-makes 𝓤 H A W u8 (uint-makes 𝓤 H A W w8) longest) is-log & tt))
             (arg ! 20 refl (arg ! 32 refl (no-more !)))
             (λ c. told 𝓤 H A W RS (steppedOf z log) c (emp 𝓤) (lasts k.ended tt (z, (log, tt)))) (λ c is-told.
             land ! (from ! (stop !)) (init ! 8 refl
@@ -279,7 +280,7 @@ module _ {M : Type 1} (𝓤 : URA M) (H : Heap 𝓤) (A : Atoms 𝓤) (W : Given
           land ! (from ! (stop !)) (init ! 22 refl (typed-bytes 9 ds u is-bytes)) $
           assigns ! (of-opd ! (load ! (from ! (stop !)) (look ! 22 refl))) (from ! (stop !))
           (init ! 19 refl (typed-bytes 9 ds u is-bytes)) $
-          forget ! 22 refl $ zeros ! w8 10 20 tt refl refl $
+          forget ! 22 refl $ zeros ! w8 longest 20 tt refl refl $
           -- [the log; the records; the buffers; the page; the bases; the readers; five tokens; _0; …]
           lends-on ! 12 24 25 (room .0) refl refl refl refl refl refl $
           lends-on ! 15 26 27 (room-page .0) refl refl refl refl refl refl $
@@ -293,7 +294,7 @@ module _ {M : Type 1} (𝓤 : URA M) (H : Heap 𝓤) (A : Atoms 𝓤) (W : Given
           rewrite ! 31 (λ (c : ℕ). ‵ (fat fullShare (spotOf 𝓤 H (E l) 20 .0) (spotOf 𝓤 H (E l) 20 .1) zero
           (sliceVal (l 9, zero) c))) (sym (length-nine x)) refl $
           takes ! 20 refl $ lays 9 (l 9) ! ds u is-bytes $ apart 9 (l 9) ! ds $
-          lends-shr u8 (cm l) ! tt nine-room (λ α δ. move ! (3 ∷ []) $ apart 10 (l 10) ! es $
+          lends-shr u8 (cm l) ! tt nine-room (λ α δ. move ! (3 ∷ []) $ apart longest (l 10) ! es $
           relends u8 (lg l) ! tt es (lit< tt, lit< tt) (λ β ε.
           -- [β; the log; what is kept; α; the bytes; what is kept; the records; the buffers; the page; the bases; the
           -- readers; five tokens; _0; …]
@@ -320,8 +321,8 @@ module _ {M : Type 1} (𝓤 : URA M) (H : Heap 𝓤) (A : Atoms 𝓤) (W : Given
           move ! (1 ∷ []) $ fsplit ! $ drop ! $ fsplit ! $ move ! (1 ∷ []) $ fsplit ! $ drop ! $ fsplit ! $ drop ! $
           fsplit ! $ move ! (1 ∷ []) $ drop ! $ fsplit ! $ move ! (1 ∷ []) $ feqL ! (λ long.
           -- [the last log; buffers; page; readers; five tokens; β; what is kept of the log; _0; …]
-          move ! (9 ∷ 0 ∷ 10 ∷ []) $ comes u8 (lg l) ! tt β ε es (ls .1 .1 .1 .1 .1 .1 .1 .1 .0) $ whole 10 (l 10) ! (ls .1 .1 .1 .1 .1 .1 .1 .1 .0) long $
-          picks 10 (l 10) ! (ls .1 .1 .1 .1 .1 .1 .1 .1 .0) (λ is-log. puts ! 18 $
+          move ! (9 ∷ 0 ∷ 10 ∷ []) $ comes u8 (lg l) ! tt β ε es (ls .1 .1 .1 .1 .1 .1 .1 .1 .0) $ whole longest (l 10) ! (ls .1 .1 .1 .1 .1 .1 .1 .1 .0) long $
+          picks longest (l 10) ! (ls .1 .1 .1 .1 .1 .1 .1 .1 .0) (λ is-log. puts ! 18 $
           forget ! 21 refl $ forget ! 22 refl $ forget ! 23 refl $ forget ! 24 refl $ forget ! 25 refl $ forget ! 26 refl $
           forget ! 27 refl $ forget ! 28 refl $ forget ! 29 refl $ forget ! 30 refl $
           tells l (ls .0) (ls .1 .1 .1 .0) (ls .1 .1 .1 .1 .1 .0) z (ls .1 .1 .1 .1 .1 .1 .1 .1 .0) (spelt ds) v (spelt (ls .1 .1 .1 .1 .1 .1 .1 .1 .0)) is is-log

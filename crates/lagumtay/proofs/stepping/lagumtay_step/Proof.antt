@@ -41,6 +41,7 @@ use denote.Triple.Table.{entered, cited}
 use denote.Triple.Walked.{Stays, gave-slice, stay-ref, stay-dropped, AllGo, goes-gave-slice, goes-ref, goes-dropped}
 use denote.Triple.Walked.{walkOf, Walks, ends-at, walk-meets}
 use denote.Exit.{yes}
+use Rattle.protocol.specs.Outcome.{longest}
 use Rattle.protocol.specs.declared.Command.{Command}
 use Rattle.protocol.proofs.Reader as TD
 use Rattle.protocol.proofs.Format as TF
@@ -153,7 +154,7 @@ module _ {M : Type 1} (𝓤 : URA M) (H : Heap 𝓤) (A : Atoms 𝓤) (W : Given
       steppedLent s (last-page ls) (last-readers ls) (last-buffers ls) ≡ stepLent (form a) (records .now) (memory a) x
 
   abbrev Carried : Type 0
-  Carried = (log : List ℕ) → 10 ≤ length log → CarriesStep (form a) (records .now) (memory a) x log
+  Carried = (log : List ℕ) → longest ≤ length log → CarriesStep (form a) (records .now) (memory a) x log
 
   -- what stands once the writer and the outcome that were told are stored
   abbrev Ended : End → Lasting → List (Item 𝓤)

@@ -4,6 +4,7 @@ use mathlib.Core.Path.{ap, _∙_}
 use mathlib.Core.List.{List}
 use Prim.Native.Nat.{ℕ}
 use lib.ListN.{replicate}
+use Rattle.protocol.specs.Outcome.{longest}
 use Rattle.protocol.specs.Form.{Form, formOf}
 use Rattle.packed.specs.Kept.{Kept, kept, runKept}
 use Rattle.packed.proofs.Kept.Steps.{step-kept}
@@ -45,7 +46,7 @@ returns c =
     let K : Kept = kept (s .args .page .now) (s .args .writer) (s .args .states .now) (s .args .buffers .now) in
     rw (c .step-of-run .ensures)
     (step-kept F S K (s .args .x) (command-range (s .args .x) _ (s .good .1 .1 .1 .1 .1 .1 .1 .0))
-    (r .run .ensures ∙ ap (λ (l : List ℕ). runKept F S K l (replicate 10 0)) (e .encode .ensures)))
+    (r .run .ensures ∙ ap (λ (l : List ℕ). runKept F S K l (replicate longest 0)) (e .encode .ensures)))
 
 pub step-spec : {M : Type 1} → statement M
 step-spec =

@@ -1,4 +1,4 @@
--- Each arm is one case of `shownBy`.
+-- Each arm is one case of `toldBy`.
 use mathlib.Core.Path.{_≡_, refl, sym, ap, _∙_}
 use mathlib.Core.List.{List}
 use Prim.Native.Nat.{ℕ}
@@ -6,7 +6,7 @@ use Rattle.radix.specs.declared.Ends.{Ends}
 use Rattle.protocol.specs.Form.{Form, formOf}
 use Rattle.protocol.specs.Step.{Gathered}
 use Rattle.page.specs.Left.{Left, before, onGathered, countEnded}
-use Rattle.page.proofs.Readers.Counts.{shownBy, none-shown, count-shown}
+use Rattle.page.proofs.Readers.Counts.{toldBy, none-told, count-told}
 use borrow.Author.Needs.{needs}
 use Rattle.page.proofs.count_read.end_count.Statement.{statement}
 use Rattle.page.proofs.count_read.end_count.Tie as tie
@@ -29,12 +29,12 @@ leaves c b g =
     let a = start c .args in
     onGathered (form c) (a .room) (before (a .stage) (a .digits .now)) b g
 
--- what the ends that were found show
-shown :
+-- what the ends that were found tell
+told :
     (c : tie.After-ends-of) (e : Ends) → c .ends-of .result ≡ e → (b : List ℕ) →
     let a = start c .args in
-    leaves c b (shownBy (a .who) b e) ≡ countEnded (form c) (a .who) (a .room) (a .stage) (a .digits .now) b
-shown c e is b = count-shown _ _ _ _ _ b e (start c .pre) (sym is ∙ c .ends-of .ensures)
+    leaves c b (toldBy (a .who) b e) ≡ countEnded (form c) (a .who) (a .room) (a .stage) (a .digits .now) b
+told c e is b = count-told _ _ _ _ _ b e (start c .pre) (sym is ∙ c .ends-of .ensures)
 
 finish-requires : tie.Need-finish-requires
 finish-requires c κs = search needs
@@ -55,21 +55,21 @@ same-length : tie.Need-same-length
 same-length c = search needs
 
 returns : tie.Need-returns
-unfolding shownBy
+unfolding toldBy
 returns c =
     let z = c .before .before in
     let e = z .before .before .before in
-    λ b. z .finish .ensures _ b ∙ shown (e .before .before) _ (e .e .given .1) b
+    λ b. z .finish .ensures _ b ∙ told (e .before .before) _ (e .e .given .1) b
 
 same-length-2 : tie.Need-same-length-2
 same-length-2 c = search needs
 
 returns-2 : tie.Need-returns-2
-unfolding shownBy
+unfolding toldBy
 returns-2 c =
     let z = c .before .before in
     let e = z .before .before .before in
-    λ b. z .finish2 .ensures _ b ∙ shown (e .before .before) _ (e .e2 .given .1) b
+    λ b. z .finish2 .ensures _ b ∙ told (e .before .before) _ (e .e2 .given .1) b
 
 same-length-3 : tie.Need-same-length-3
 same-length-3 c = search needs
@@ -80,7 +80,7 @@ returns-3 c =
     let m = c .before in
     let e = m .before in
     λ b. rw (c .refused .ensures)
-    (ap (leaves e b) (sym (none-shown (start e .args .who) b _ (m .match .keys3))) ∙ shown e _ refl b)
+    (ap (leaves e b) (sym (none-told (start e .args .who) b _ (m .match .keys3))) ∙ told e _ refl b)
 
 pub end-count-spec : {M : Type 1} → statement M
 end-count-spec =

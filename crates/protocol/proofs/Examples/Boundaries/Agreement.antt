@@ -28,7 +28,7 @@ use Rattle.protocol.specs.Demand.{
   readsRecord,
   Mild,
 }
-use Rattle.protocol.specs.declared.Outcome.the-variants.{Shown, Accepted, GaveUp}
+use Rattle.protocol.specs.declared.Outcome.the-variants.{Shown, Accepted, GaveUp, Between}
 use Rattle.protocol.specs.declared.Ending.the-variants.{Finished, Refused}
 use Rattle.protocol.specs.declared.Refusal.the-variants.{
   BadFormat,
@@ -55,8 +55,10 @@ ended =
     historyOf true 9 noWrite [] [] (noRead ∷ noRead ∷ []) (readCount 0 (4 ∷ 3 ∷ []) ∷ [])
     (attempt 1 1 [] (9 ∷ 8 ∷ 7 ∷ []) true ∷ [])
 
-pub explained : Explained ended 4 (Shown 0 (count 7)) × Explained ended 9 (Accepted 1 1 (version 3))
-explained = (inl (refl, refl), inl (refl, refl))
+pub explained : Explained ended 4 (Shown 0 (count 7))
+    × Explained ended 4 (Between 0 (count 4) (count 7))
+    × Explained ended 9 (Accepted 1 1 (version 3))
+explained = (inl (refl, refl), inl (refl, refl), inl (refl, refl))
 
 -- not with another command, of another reader, of another sort
 pub shown-elsewhere : Explained ended 5 (Shown 0 (count 7)) → ⊥
@@ -64,6 +66,9 @@ shown-elsewhere (inl e) = omega (arith, e .1)
 
 pub shown-to-other : Explained ended 4 (Shown 1 (count 7)) → ⊥
 shown-to-other (inl e) = omega (arith, e .0)
+
+pub between-elsewhere : Explained ended 9 (Between 1 (count 4) (count 7)) → ⊥
+between-elsewhere (inl e) = omega (arith, e .1)
 
 pub accepted-elsewhere : Explained ended 4 (Accepted 0 1 (version 3)) → ⊥
 accepted-elsewhere (inl e) = omega (arith, e .0)

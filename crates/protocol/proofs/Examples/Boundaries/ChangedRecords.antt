@@ -25,7 +25,7 @@ use Rattle.protocol.specs.Demand.{
   Continued,
 }
 use Rattle.protocol.specs.declared.Outcome.{Outcome}
-use Rattle.protocol.specs.declared.Outcome.the-variants.{Nothing, Shown, Accepted, GaveUp}
+use Rattle.protocol.specs.declared.Outcome.the-variants.{Nothing, Shown, Accepted, GaveUp, Between}
 use Rattle.protocol.specs.declared.Ending.the-variants.{Finished}
 use Rattle.protocol.proofs.Examples.Common.{
   count,
@@ -96,6 +96,7 @@ versionIn Nothing = 0
 versionIn (Shown r c) = 0
 versionIn (Accepted r k v) = v .0
 versionIn (GaveUp r k) = 0
+versionIn (Between r l h) = 0
 
 -- version 1 must come with the record of place 1, whose second byte is 2 and not 4
 not-reported : (i : Place) →
