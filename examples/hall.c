@@ -19,25 +19,42 @@ static lagumtay_writer writer;
 static lagumtay_reader readers[READERS];
 static uint8_t buffers[READERS * N];
 
+static uint64_t count_at(const uint8_t *at) {
+    uint64_t count = 0;
+    for (int i = 0; i < 8; i++)
+        count = count << 8 | at[i];
+    return count;
+}
+
+static void print_time(uint64_t count) {
+    printf("%02" PRIu64 ":%02" PRIu64, count / 60, count % 60);
+}
+
 /* Print the entries of a log, each as its first byte tells. A record is in its reader's buffer. */
 static void print_log(const uint8_t *at, size_t length) {
     const uint8_t *end = at + length;
     while (at < end) {
         unsigned who = at[1];
         if (at[0] == 1) {
-            uint64_t count = 0;
-            for (int i = 2; i < 10; i++)
-                count = count << 8 | at[i];
-            printf("reader %u shows %02" PRIu64 ":%02" PRIu64 "\n", who, count / 60, count % 60);
+            printf("reader %u shows ", who);
+            print_time(count_at(at + 2));
+            printf("\n");
             at += 10;
         } else if (at[0] == 2) {
             uint32_t version = (uint32_t)at[3] << 24 | (uint32_t)at[4] << 16 | (uint32_t)at[5] << 8 | at[6];
             printf("reader %u accepts version %" PRIu32 " after %u attempt(s): %.*s\n", who, version, at[2], N,
                    (const char *)buffers + who * N);
             at += 7;
-        } else {
+        } else if (at[0] == 3) {
             printf("reader %u gives up after %u attempt(s)\n", who, at[2]);
             at += 3;
+        } else {
+            printf("reader %u shows --:-- (between ", who);
+            print_time(count_at(at + 2));
+            printf(" and ");
+            print_time(count_at(at + 10));
+            printf(")\n");
+            at += 18;
         }
     }
 }
@@ -64,8 +81,8 @@ int main(void) {
         return 1;
     }
 
-    /* Reader 0 reads the first copy, 11:57; then 12:04 is written; then the reader goes on with the second copy. It shows
-       12:00, which lies between both, though nobody wrote it. */
+    /* Reader 0 reads the first copy, 11:57; then 12:04 is written; then the reader goes on with the second copy. The
+       copies part, and it ends between 11:59 and 12:00, though nobody wrote these. It reads again, and shows 12:04. */
     const uint8_t count[] = {4, 0, 6, 0, 6, 0, /* begin a count read, two steps */
                              1, 0, 0, 0, 0, 0, 0, 12 * 60 / 256, 12 * 60 % 256 + 4, 3, 3, 3, 3,
                              6, 0, 6, 0, /* the read's last steps */

@@ -4,18 +4,18 @@
 use lagumtay::Command::*;
 use lagumtay::{commands, Command, Count, Entry, Format, Page, Refusal, Version};
 
+/// A count in hours and minutes.
+fn time(Count(count): Count) -> String {
+    format!("{:02}:{:02}", count / 60, count % 60)
+}
+
 /// Run commands over the lent records and print what was read.
 fn run(page: &mut Page, records: &[u8], list: &[Command]) -> Result<(), Refusal> {
     let mut log = [0; 64];
     let ran = page.run(records, &commands(list.iter().copied()), &mut log);
     for entry in ran.entries() {
         match entry {
-            Entry::Shown {
-                reader,
-                count: Count(count),
-            } => {
-                println!("reader {reader} shows {:02}:{:02}", count / 60, count % 60);
-            }
+            Entry::Shown { reader, count } => println!("reader {reader} shows {}", time(count)),
             Entry::Accepted {
                 reader,
                 attempts,
@@ -26,6 +26,10 @@ fn run(page: &mut Page, records: &[u8], list: &[Command]) -> Result<(), Refusal>
             }
             Entry::GaveUp { reader, attempts } => {
                 println!("reader {reader} gives up after {attempts} attempt(s)")
+            }
+            Entry::Between { reader, low, high } => {
+                let (low, high) = (time(low), time(high));
+                println!("reader {reader} shows --:-- (between {low} and {high})")
             }
         }
     }
@@ -42,8 +46,8 @@ fn main() -> Result<(), Refusal> {
     };
     let mut page = Page::open(format, Count(11 * 60 + 57), b"opening.")?;
 
-    // Reader 0 reads the first copy, 11:57; then 12:04 is written; then the reader goes on with the second copy. It
-    // shows 12:00, which lies between both, though nobody wrote it.
+    // Reader 0 reads the first copy, 11:57; then 12:04 is written; then the reader goes on with the second copy. The
+    // copies part, and it ends between 11:59 and 12:00, though nobody wrote these. It reads again, and shows 12:04.
     let mut counting = vec![
         BeginCountRead(0),
         ReaderStep(0),

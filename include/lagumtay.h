@@ -72,7 +72,8 @@ typedef struct {
 } lagumtay_command;
 
 /* What a step tells beside its refusal, by the kinds of the log's entries. kind 0: no read finished; 1: a count shown;
- * 2: a record accepted; 3: a read gave up. Fields that the kind does not have are zero.
+ * 2: a record accepted; 3: a read gave up; 4: between two counts, the low end and the high end. Fields that the kind
+ * does not have are zero.
  * crates/lagumtay/specs/Step.antt, `entryOf`. */
 typedef struct {
     uint8_t kind;
@@ -80,6 +81,8 @@ typedef struct {
     uint8_t attempts;
     uint32_t version;
     uint64_t count;
+    uint64_t low;
+    uint64_t high;
 } lagumtay_outcome;
 
 /* The archive was built with this layout. */
@@ -116,12 +119,14 @@ LAGUMTAY_ASSERT(offsetof(lagumtay_command, reader) == 1);
 LAGUMTAY_ASSERT(offsetof(lagumtay_command, attempts) == 2);
 LAGUMTAY_ASSERT(offsetof(lagumtay_command, index) == 4);
 LAGUMTAY_ASSERT(offsetof(lagumtay_command, count) == 8);
-LAGUMTAY_ASSERT(sizeof(lagumtay_outcome) == 16);
+LAGUMTAY_ASSERT(sizeof(lagumtay_outcome) == 32);
 LAGUMTAY_ASSERT(offsetof(lagumtay_outcome, kind) == 0);
 LAGUMTAY_ASSERT(offsetof(lagumtay_outcome, reader) == 1);
 LAGUMTAY_ASSERT(offsetof(lagumtay_outcome, attempts) == 2);
 LAGUMTAY_ASSERT(offsetof(lagumtay_outcome, version) == 4);
 LAGUMTAY_ASSERT(offsetof(lagumtay_outcome, count) == 8);
+LAGUMTAY_ASSERT(offsetof(lagumtay_outcome, low) == 16);
+LAGUMTAY_ASSERT(offsetof(lagumtay_outcome, high) == 24);
 #undef LAGUMTAY_ASSERT
 
 /* The refusals. Checks go 1, 2, 3, 11, 8, 6 or 7, 4, 5, 9, 10, 12; the first that applies is answered.
@@ -140,7 +145,8 @@ enum lagumtay_refusal {
     LAGUMTAY_VERSIONS_EXHAUSTED = 9, /* v1 stands at its top version */
     LAGUMTAY_COPIES_CROSSED = 10,    /* a count read would finish with its first copy above its second */
     LAGUMTAY_UNKNOWN_COMMAND = 11,   /* unknown kind, or a body cut short */
-    LAGUMTAY_LOG_FULL = 12           /* the entry that this step makes does not fit */
+    LAGUMTAY_LOG_FULL = 12           /* the entry that this step makes, of 3 to 18 bytes by its kind, does not fit; the
+                                        step can be taken again with another log */
 };
 
 /* Open a page: the first count in both copies, version 0 in v1 and v2, the first record; nothing pending, all readers
@@ -167,10 +173,11 @@ uint8_t lagumtay_open(const lagumtay_format *format, const uint16_t *bases, size
  *               02 write a record (2 bytes: index)    06 reader step (reader)
  *               03 writer step                        07 cancel a read (reader)
  *               04 begin a count read (reader)
- *   log       entries of finished reads
- *               01 count shown (reader, 8 bytes of count)
+ *   log       entries of finished reads; 18 bytes free always have room for the next one
+ *               01 count shown: the copies were equal (reader, 8 bytes of count)
  *               02 record accepted (reader, attempts used, 4 bytes of version); the record is in the reader's buffer
  *               03 gave up (reader, attempts used); the reader's buffer is all zeros
+ *               04 between two counts: the copies differed (reader, 8 bytes of low end, 8 bytes of high end)
  * crates/protocol/specs/Run.antt, `run`; commands: Command.antt, `decode`; one command: Step.antt, `carry`; log
  * entries: Outcome.antt, `entry`; refusal 3: Load.antt, `validMemory`; this call: crates/lagumtay/specs/Run.antt,
  * `runCall`. */
@@ -217,8 +224,11 @@ uint8_t lagumtay_unpack(lagumtay_reader *readers, size_t readers_len, const uint
  * `GeneralClaim`; over one list of records throughout, `Claim`. A step counts as the run of its one command with a log
  * that has room: crates/page/specs/Calls.antt, `CarriesStep`, in the contract of lagumtay_step. */
 
-/* A count shown lies between the last count fully written before the read's first step and the last one begun before
- * its last step. Demand.antt, `Span`. */
+/* Every finished count read ends as shown or between. A read's span goes from the last count fully written before its
+ * first step to the last one begun before its last step. A count shown lies in the span, and somebody wrote it: it is
+ * the opening's, or that of a write begun before the read's last step. Between: the low end is below the high end, and
+ * both lie in the span, though perhaps nobody wrote them. Who wants one number takes the high end, which document 01
+ * shows (`shown` of crates/radix/specs/Copies.antt). Demand.antt, `CountEnds`, `InSpan`, `Begun`. */
 
 /* An accepted record is whole: the bytes in the buffer, right after the step that accepted it, are those of one
  * write, and the version is the number of that write, 0 for the opening. Take them before that reader steps again: the

@@ -1,5 +1,5 @@
-/* Lists of length 0 with no memory behind them, and lengths that are one too long or too short: each call answers a
- * refusal, and all that is lent stays as it was.
+/* Lists of length 0 with no memory behind them, and lengths that are one too long or too short, the log's among them:
+ * each call answers a refusal, and all that is lent stays as it was.
  *
  *     cc -std=c11 -Iinclude tests/empty.c target/staticlib/liblagumtay.a -o target/empty && target/empty
  */
@@ -20,7 +20,7 @@ struct lent {
     lagumtay_reader readers[READERS + 1];
     uint8_t buffers[READERS * N + 1];
     uint8_t record[N + 1];
-    uint8_t log[16];
+    uint8_t log[18];
     uint8_t packed[READERS * 27 + 1];
 };
 
@@ -65,12 +65,13 @@ static uint8_t run(struct lengths l) {
 /* A step of reader 0. */
 static uint8_t step(struct lengths l) {
     static const lagumtay_command command = {.kind = 6, .reader = 0};
-    lagumtay_outcome outcome = {9, 9, 9, 9, 9};
+    lagumtay_outcome outcome = {9, 9, 9, 9, 9, 9, 9};
     uint8_t why = lagumtay_step(&lent.format, LIST(lent.bases, l.bases), LIST(lent.page, l.page), &lent.writer,
                                 LIST(lent.readers, l.readers), LIST(lent.buffers, l.buffers),
                                 LIST(lent.record, l.record), &command, &outcome);
     check(outcome.kind == 0 && outcome.reader == 0 && outcome.attempts == 0 && outcome.version == 0
-              && outcome.count == 0, "step", "a step that ends no read tells zeros");
+              && outcome.count == 0 && outcome.low == 0 && outcome.high == 0, "step",
+          "a step that ends no read tells zeros");
     return why;
 }
 
@@ -86,6 +87,39 @@ static uint8_t pack(struct lengths l) {
 
 static uint8_t unpack(struct lengths l) {
     return lagumtay_unpack(LIST(lent.readers, l.readers), LIST(lent.packed, l.packed));
+}
+
+/* Commands with so much room in the log; what they answer must be the refusal or 0, and what is written. */
+static void logged(const uint8_t *commands, size_t length, int room, uint8_t why, size_t written, const char *what) {
+    lagumtay_answer answer = {9, 9, 9};
+    check(lagumtay_run(&lent.format, lent.bases, M, lent.page, PAGE, &lent.writer, lent.readers, READERS, lent.buffers,
+                       READERS * N, NULL, 0, commands, length, LIST(lent.log, room), &answer) == why, "run", what);
+    check(answer.written == written, "run", what);
+}
+
+/* The last step of reader 0's count read makes an entry of this size: any room below it is too little, it is enough. */
+static void room_for(int size, const char *what) {
+    static const uint8_t last[] = {6, 0};
+    struct lent before = lent;
+    for (int room = -1; room < size; room++) {
+        logged(last, sizeof last, room, LAGUMTAY_LOG_FULL, 0, what);
+        check(memcmp(&before, &lent, sizeof lent) == 0, "run", "a step without room has changed something");
+    }
+    logged(last, sizeof last, size, LAGUMTAY_OK, size, what);
+}
+
+/* Count reads of copies that are equal, and of copies that part: 0:06 is written after the first copy was read. */
+static void rooms(void) {
+    static const uint8_t reading[] = {4, 0, 6, 0, 6, 0}, step[] = {6, 0};
+    static const uint8_t writing[] = {1, 0, 0, 0, 0, 0, 0, 0, 6, 3, 3, 3, 3};
+    check(opening(right) == LAGUMTAY_OK, "open", "for the logs");
+    logged(reading, sizeof reading, -1, LAGUMTAY_OK, 0, "a read without a log");
+    logged(step, sizeof step, -1, LAGUMTAY_OK, 0, "a read without a log");
+    room_for(10, "a count shown");
+    logged(reading, sizeof reading, -1, LAGUMTAY_OK, 0, "a read without a log");
+    logged(writing, sizeof writing, -1, LAGUMTAY_OK, 0, "a write without a log");
+    logged(step, sizeof step, -1, LAGUMTAY_OK, 0, "a read without a log");
+    room_for(18, "copies that part");
 }
 
 /* The five padding bytes of a state hold nothing and no promise speaks of them: a call may write them. This archive
@@ -159,6 +193,7 @@ int main(void) {
     padding("unpack");
     const struct lengths none = {-1, -1, -1, -1, -1, -1};
     check(pack(none) == LAGUMTAY_OK && unpack(none) == LAGUMTAY_OK, "pack", "no states in no bytes");
+    rooms();
     printf("%d checks passed\n", checks);
     return 0;
 }

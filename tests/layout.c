@@ -14,9 +14,9 @@ enum { M = 3, Q = 2, N = 5, READERS = 3 };
 
 /* Bytes, so that no compiler's idea of the structs is involved. */
 static _Alignas(8) uint8_t format[32], writer[32], readers[READERS * 32], answer[24];
-static _Alignas(8) uint8_t command[16], outcome[16];
+static _Alignas(8) uint8_t command[16], outcome[32];
 static const uint16_t bases[M] = {7, 8, 9};
-static uint8_t page[2 * M + 2 * Q + N], buffers[READERS * N], records[3 * N], log_bytes[16];
+static uint8_t page[2 * M + 2 * Q + N], buffers[READERS * N], records[3 * N], log_bytes[20];
 static int checks;
 
 static void check(int good, const char *what) {
@@ -43,13 +43,13 @@ static uint8_t opening(void) {
                          (lagumtay_reader *)readers, READERS, buffers, sizeof buffers, 100, record, N);
 }
 
-static uint8_t run(const char *commands, size_t length) {
+static uint8_t run(const char *commands, size_t length, size_t room) {
     memset(answer, 0xee, sizeof answer);
     return lagumtay_run((const lagumtay_format *)format, bases, M, page, sizeof page, (lagumtay_writer *)writer,
                         (lagumtay_reader *)readers, READERS, buffers, sizeof buffers, records, sizeof records,
-                        (const uint8_t *)commands, length, log_bytes, sizeof log_bytes, (lagumtay_answer *)answer);
+                        (const uint8_t *)commands, length, log_bytes, room, (lagumtay_answer *)answer);
 }
-#define RUN(commands) run(commands, sizeof(commands) - 1)
+#define RUN(commands) run(commands, sizeof(commands) - 1, sizeof log_bytes)
 
 /* All bytes of a command that its kind does not ask for are 0xdd. */
 static void order(uint64_t kind) {
@@ -65,19 +65,22 @@ static uint8_t step(void) {
 }
 
 /* What the step told, field by field. */
-static void told(uint64_t kind, uint64_t reader, uint64_t attempts, uint64_t version, uint64_t count) {
+static void told(uint64_t kind, uint64_t reader, uint64_t attempts, uint64_t version, uint64_t count, uint64_t low,
+                 uint64_t high) {
     check(at(outcome, 0, 1) == kind, "outcome.kind");
     check(at(outcome, 1, 1) == reader, "outcome.reader");
     check(at(outcome, 2, 1) == attempts, "outcome.attempts");
     check(at(outcome, 4, 4) == version, "outcome.version");
     check(at(outcome, 8, 8) == count, "outcome.count");
+    check(at(outcome, 16, 8) == low, "outcome.low");
+    check(at(outcome, 24, 8) == high, "outcome.high");
 }
 
 /* Steps that end no read. */
 static void quiet(int steps) {
     while (steps-- > 0) {
         check(step() == LAGUMTAY_OK, "step");
-        told(0, 0, 0, 0, 0);
+        told(0, 0, 0, 0, 0, 0, 0);
     }
 }
 
@@ -106,7 +109,7 @@ static void stepping(void) {
     put(command, 1, 2, 1);
     quiet(2 * M - 1);
     check(step() == LAGUMTAY_OK, "the last step of a count read");
-    told(1, 2, 0, 0, 300);
+    told(1, 2, 0, 0, 300, 0, 0);
 
     order(5);
     put(command, 1, 1, 1);
@@ -117,7 +120,7 @@ static void stepping(void) {
     put(command, 1, 1, 1);
     quiet(2 * Q + N - 1);
     check(step() == LAGUMTAY_OK, "the last step of a record read");
-    told(2, 1, 1, 1, 0);
+    told(2, 1, 1, 1, 0, 0, 0);
     check(memcmp(buffers + N, records + 2 * N, N) == 0, "the accepted record");
 
     /* v2 is read before the next record write begins, v1 after it was written: the read gives up. */
@@ -137,7 +140,7 @@ static void stepping(void) {
     put(command, 1, 0, 1);
     quiet(Q + N - 1);
     check(step() == LAGUMTAY_OK, "the last step of the last attempt");
-    told(3, 0, 1, 0, 0);
+    told(3, 0, 1, 0, 0, 0, 0);
 
     order(4);
     put(command, 1, 0, 1);
@@ -146,12 +149,43 @@ static void stepping(void) {
     put(command, 1, 0, 1);
     quiet(1);
     check(step() == LAGUMTAY_NOTHING_PENDING, "nothing to cancel");
-    told(0, 0, 0, 0, 0);
+    told(0, 0, 0, 0, 0, 0, 0);
     order(0);
     check(step() == LAGUMTAY_UNKNOWN_COMMAND, "kind 0");
     order(8);
     check(step() == LAGUMTAY_UNKNOWN_COMMAND, "kind 8");
-    told(0, 0, 0, 0, 0);
+    told(0, 0, 0, 0, 0, 0, 0);
+}
+
+/* The last step of a count read whose copies part, 1, 3, 1 and 4, 1, 3: through the run and through the step it ends
+ * between 1, 7, 8 and 4, 0, 0, and leaves the same. One byte of room short of the entry, the run changes nothing. */
+static void parting(void) {
+    check(opening() == LAGUMTAY_OK, "open for copies that part");
+    check(RUN("\4\1\6\1\6\1\6\1\1\0\0\0\0\0\0\1\54\3\3\3\3\3\3\6\1\6\1") == LAGUMTAY_OK, "a write meets a read");
+    uint8_t begun[sizeof readers], kept_page[sizeof page], kept_writer[sizeof writer], kept_log[sizeof log_bytes];
+    memcpy(begun, readers, sizeof readers);
+    memcpy(kept_page, page, sizeof page);
+    memcpy(kept_writer, writer, sizeof writer);
+    memset(log_bytes, 0xee, sizeof log_bytes);
+    memcpy(kept_log, log_bytes, sizeof log_bytes);
+    check(run("\6\1", 2, 17) == LAGUMTAY_LOG_FULL, "17 bytes of room");
+    check(at(answer, 0, 8) == 0 && at(answer, 8, 8) == 0 && at(answer, 16, 8) == 0, "a refused entry is not written");
+    check(memcmp(begun, readers, sizeof readers) == 0, "the read can be stepped again");
+    check(memcmp(kept_log, log_bytes, sizeof log_bytes) == 0, "the log of a refused entry");
+
+    check(run("\6\1", 2, 18) == LAGUMTAY_OK, "18 bytes of room");
+    check(at(answer, 0, 8) == 1 && at(answer, 8, 8) == 18 && at(answer, 16, 8) == 2, "an entry of 18 bytes");
+    check(memcmp(log_bytes, "\4\1\0\0\0\0\0\0\0\217\0\0\0\0\0\0\1\40\356\356", 20) == 0, "the log of copies that part");
+    check(at(readers + 32, 0, 3) == 0 && at(readers + 32, 8, 8) == 0, "the reader is idle");
+
+    memcpy(readers, begun, sizeof readers);
+    order(6);
+    put(command, 1, 1, 1);
+    check(step() == LAGUMTAY_OK, "the step of copies that part");
+    told(4, 1, 0, 0, 0, 143, 288);
+    check(at(readers + 32, 0, 3) == 0 && at(readers + 32, 8, 8) == 0, "the stepped reader is idle");
+    check(memcmp(kept_page, page, sizeof page) == 0, "a reader changes no page");
+    check(memcmp(kept_writer, writer, sizeof writer) == 0, "a reader changes no writer");
 }
 
 /* Each byte of a state's fields goes to a place of its own, and comes back from there. */
@@ -313,6 +347,7 @@ int main(void) {
     check(buffers[0] == 'a' && buffers[1] == 0, "its buffer keeps its bytes");
 
     stepping();
+    parting();
     packing();
     printf("%d checks passed\n", checks);
     return 0;

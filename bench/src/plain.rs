@@ -1,7 +1,8 @@
-//! Document 01 in plain Rust, over the same lent memory as the proved archive: the baseline of the bench, and the other
-//! side of the fuzz program. It is written from document 01 to be fast: a run checks its memory once, digits eight at a
-//! time, and after that a command costs a look at its kind and one byte moved.
-use lagumtay::raw::{Answer, Command, Format, Lent, Outcome, Reader, Writer, PACKED};
+//! Document 01 in plain Rust, with both ends told where the copies of a count part, over the same lent memory as the
+//! proved archive: the baseline of the bench, and the other side of the fuzz program. It is written from document 01 to
+//! be fast: a run checks its memory once, digits eight at a time, and after that a command costs a look at its kind and
+//! one byte moved.
+use lagumtay::raw::{Answer, Command, Format, Lent, Outcome, Reader, Writer, LONGEST_ENTRY, PACKED};
 use lagumtay::Refusal::{self, *};
 
 // Kinds of a state, the writer's and a reader's.
@@ -300,6 +301,7 @@ fn halves(reader: &Reader) -> (u64, u64) {
 /// nothing.
 trait Told {
     fn shown(&mut self, who: u8, count: u64) -> Ending;
+    fn between(&mut self, who: u8, low: u64, high: u64) -> Ending;
     fn accepted(&mut self, who: u8, attempts: u8, version: u32) -> Ending;
     fn gave_up(&mut self, who: u8, attempts: u8) -> Ending;
 }
@@ -307,6 +309,11 @@ trait Told {
 impl Told for Outcome {
     fn shown(&mut self, reader: u8, count: u64) -> Ending {
         *self = Outcome { kind: 1, reader, count, ..Outcome::default() };
+        Ok(())
+    }
+
+    fn between(&mut self, reader: u8, low: u64, high: u64) -> Ending {
+        *self = Outcome { kind: 4, reader, low, high, ..Outcome::default() };
         Ok(())
     }
 
@@ -330,6 +337,14 @@ impl Told for Log<'_> {
     fn shown(&mut self, who: u8, count: u64) -> Ending {
         let [a, b, c, d, e, f, g, h] = count.to_be_bytes();
         self.put([1, who, a, b, c, d, e, f, g, h])
+    }
+
+    fn between(&mut self, who: u8, low: u64, high: u64) -> Ending {
+        let mut entry = [0; LONGEST_ENTRY];
+        entry[..2].copy_from_slice(&[4, who]);
+        entry[2..10].copy_from_slice(&low.to_be_bytes());
+        entry[10..].copy_from_slice(&high.to_be_bytes());
+        self.put(entry)
     }
 
     fn accepted(&mut self, who: u8, attempts: u8, version: u32) -> Ending {
@@ -612,10 +627,22 @@ fn end_count_read(counts: Radix, reader: &mut Reader, digit: u8, who: u8, told: 
     let (a, b) = halves(reader);
     let b = b | u64::from(digit) << 56;
     ensure(a <= b, CopiesCrossed)?;
-    let agree = (a ^ b).leading_zeros() as usize / 8;
-    told.shown(who, counts.value(b & high(agree + 1)))?;
+    if a == b {
+        told.shown(who, counts.value(a))?;
+    } else {
+        let (low, high) = ends(a, b, counts.most);
+        told.between(who, counts.value(low), counts.value(high))?;
+    }
     *reader = Reader::default();
     Ok(())
+}
+
+/// The ends of copies that part: each keeps its digits as far as the first that differs; the largest digits come after
+/// it in the low end, zeros in the high end.
+fn ends(a: u64, b: u64, most: u64) -> (u64, u64) {
+    let agree = (a ^ b).leading_zeros() as usize / 8;
+    let kept = high(agree + 1);
+    (a & kept | most & !kept, b & kept)
 }
 
 /// The last step of an attempt at a record read, which reads the first digit of v1.

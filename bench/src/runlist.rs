@@ -1,7 +1,7 @@
 //! The printed run on top of the plain implementation, so that it is held to the recorded runs.
 use std::fmt::Write;
 
-use lagumtay::raw::Format;
+use lagumtay::raw::{Format, LONGEST_ENTRY};
 use lagumtay::Refusal;
 
 use crate::owned::Owned;
@@ -25,7 +25,11 @@ fn take<'a>(input: &mut &'a [u8], length: usize) -> Result<&'a [u8], Refusal> {
 }
 
 fn take_number(input: &mut &[u8], length: usize) -> Result<u64, Refusal> {
-    Ok(take(input, length)?.iter().fold(0, |x, &byte| x << 8 | u64::from(byte)))
+    Ok(number_in(take(input, length)?))
+}
+
+fn number_in(bytes: &[u8]) -> u64 {
+    bytes.iter().fold(0, |x, &byte| x << 8 | u64::from(byte))
 }
 
 struct Opened<'a> {
@@ -83,25 +87,25 @@ fn print(input: &[u8], out: &mut String) -> (usize, plain::Ending) {
     // One command a run, since a record is printed as the buffer held it right then.
     while let Some(&kind) = commands.first() {
         let (command, rest) = commands.split_at(command_length(kind).min(commands.len()));
-        let mut log = [0; 10];
+        let mut log = [0; LONGEST_ENTRY];
         let (answer, ending) = plain::run(&mut lent.lend(), records, command, &mut log);
         if ending.is_err() {
             return (done, ending);
         }
         match &log[..answer.written] {
-            [1, who, count @ ..] => {
-                let count = u64::from_be_bytes(count.try_into().unwrap());
-                writeln!(out, "C {who} {count}").unwrap();
-            }
+            [1, who, count @ ..] => writeln!(out, "C {who} {}", number_in(count)).unwrap(),
             [2, who, attempts, version @ ..] => {
-                let version = u32::from_be_bytes(version.try_into().unwrap());
-                write!(out, "R {who} {attempts} {version} ").unwrap();
+                write!(out, "R {who} {attempts} {} ", number_in(version)).unwrap();
                 for byte in lent.buffer(*who) {
                     write!(out, "{byte:02x}").unwrap();
                 }
                 out.push('\n');
             }
             [3, who, attempts] => writeln!(out, "G {who} {attempts}").unwrap(),
+            [4, who, ends @ ..] => {
+                let (low, high) = ends.split_at(8);
+                writeln!(out, "B {who} {} {}", number_in(low), number_in(high)).unwrap();
+            }
             _ => {}
         }
         done += 1;

@@ -1,4 +1,6 @@
-//! The plain implementation against document 01: its printed run, its trap, its edges, and each refusal.
+//! The plain implementation against the documents: the printed run, the trap, the edges with both ends, each refusal.
+use std::cmp::Ordering;
+
 use lagumtay::raw::{Answer, Command, Format, Outcome, Reader, Writer, PACKED};
 use lagumtay::Refusal;
 use lagumtay_bench::owned::Owned;
@@ -53,12 +55,18 @@ fn refused(lent: &mut Owned, commands: &str, refused: &str, number: u8) {
 }
 
 #[test]
-fn prints_the_run_of_document_01() {
+fn prints_the_documents_run() {
     let input = bytes(
         "01 000A 01 000A 0002 01 0000000000000004 6161 0001 6262
          050002 0600 0600 020000 03 03 03 0600 0600 03 0600 0600 0600 0600 010000000000000007 0400 0600 03 03 0600",
     );
-    assert_eq!(printed(&input), "R 0 2 1 6262\nC 0 7\nEND 20 0\n");
+    assert_eq!(printed(&input), "R 0 2 1 6262\nB 0 4 7\nEND 20 0\n");
+}
+
+#[test]
+fn prints_a_count_of_equal_copies() {
+    let input = bytes("01 000A 01 000A 0002 01 0000000000000004 6161 0000 0400 0600 0600");
+    assert_eq!(printed(&input), "C 0 4\nEND 3 0\n");
 }
 
 #[test]
@@ -68,30 +76,83 @@ fn a_later_read_may_show_less_than_one_that_it_overlaps() {
     assert_eq!(run(&mut lent, "0400 0600 0600 0600").2, 0);
     assert_eq!(run(&mut lent, write_150).2, 0);
     assert_eq!(run(&mut lent, "0401 0601 0601 0601 0601 0601 0601").1, bytes("01 01 0000000000000096"));
-    assert_eq!(run(&mut lent, "0600 0600 0600").1, bytes("01 00 0000000000000064"));
+    assert_eq!(run(&mut lent, "0600 0600 0600").1, bytes("04 00 0000000000000063 0000000000000064"));
+}
+
+/// One step before the end of reader 0's count read, with these digits in the copies.
+fn about_to_end(bases: &[u16], a: &[u8], b: &[u8]) -> Owned {
+    let mut lent = opened(bases, 0);
+    let m = bases.len();
+    lent.page[..m].copy_from_slice(a);
+    lent.page[m..2 * m].copy_from_slice(b);
+    assert_eq!(run(&mut lent, &format!("0400 {}", "0600".repeat(2 * m - 1))).2, 0);
+    lent
+}
+
+fn between(low: u64, high: u64) -> Vec<u8> {
+    bytes(&format!("04 00 {low:016x} {high:016x}"))
 }
 
 #[test]
-fn shows_the_counts_of_the_edges() {
-    for (bases, a, b, shown) in [
-        (&[10, 10, 10][..], &[0, 0, 0][..], &[1, 0, 0][..], Some(100)),
-        (&[10, 10, 10], &[0, 9, 9], &[1, 9, 9], Some(100)),
-        (&[24, 60], &[11, 57], &[12, 4], Some(12 * 60)),
-        (&[24, 60], &[11, 57], &[11, 59], Some(11 * 60 + 59)),
-        (&[24, 60], &[11, 57], &[11, 57], Some(11 * 60 + 57)),
-        (&[24, 60], &[12, 4], &[11, 57], None),
-        (&[10], &[5], &[7], Some(7)),
+fn copies_that_part_give_the_ends_of_the_edges() {
+    for (bases, a, b, low, high) in [
+        (&[10, 10, 10][..], &[0, 0, 0][..], &[1, 0, 0][..], 99, 100),
+        (&[10, 10, 10], &[0, 9, 9], &[1, 9, 9], 99, 100),
+        (&[24, 60], &[11, 57], &[12, 4], 11 * 60 + 59, 12 * 60),
+        (&[24, 60], &[11, 57], &[11, 59], 11 * 60 + 57, 11 * 60 + 59),
+        (&[10], &[5], &[7], 5, 7),
+        // Each place has a largest digit of its own: 0, 1, 59, 255 and 1, 0, 0, 0.
+        (&[2, 2, 60, 256], &[0, 1, 2, 3], &[1, 1, 2, 3], 2 * 60 * 256 - 1, 2 * 60 * 256),
+        (&[256; 8], &[0; 8], &[255; 8], (1 << 56) - 1, 255 << 56),
     ] {
-        let mut lent = opened(bases, 0);
-        let m = bases.len();
-        lent.page[..m].copy_from_slice(a);
-        lent.page[m..2 * m].copy_from_slice(b);
-        assert_eq!(run(&mut lent, &format!("0400 {}", "0600".repeat(2 * m - 1))).2, 0);
-        match shown {
-            Some(count) => assert_eq!(run(&mut lent, "0600").1, bytes(&format!("01 00 {count:016x}"))),
-            None => {
-                refused(&mut lent, "", "0600", 10);
-                assert_eq!(run(&mut lent, "0700").2, 0, "a read refused by 10 can be cancelled");
+        assert_eq!(run(&mut about_to_end(bases, a, b), "0600"), (1, between(low, high), 0));
+    }
+}
+
+#[test]
+fn equal_copies_show_their_count() {
+    let mut lent = opened(&[24, 60], 11 * 60 + 57);
+    let shown = bytes("01 00 00000000000002cd");
+    assert_eq!(run(&mut lent, "0400 0600 0600 0600 0600"), (5, shown.clone(), 0));
+    // A write of the same count that is met changes nothing about it.
+    assert_eq!(run(&mut lent, "0400 0600 01 00000000000002cd 03 03 0600 0600 03 0600"), (9, shown, 0));
+    let mut largest = about_to_end(&[256; 8], &[255; 8], &[255; 8]);
+    assert_eq!(run(&mut largest, "0600").1, bytes("01 00 ffffffffffffffff"));
+}
+
+#[test]
+fn refusal_10_copies_crossed() {
+    let mut lent = about_to_end(&[24, 60], &[12, 4], &[11, 57]);
+    refused(&mut lent, "", "0600", 10);
+    let before = lent.clone();
+    assert_eq!(run_with(&mut lent, RECORDS, "0600", 0), (0, vec![], 10), "10 comes before 12");
+    assert_eq!(lent, before);
+    assert_eq!(run(&mut lent, "0700").2, 0, "a read refused by 10 can be cancelled");
+}
+
+/// The ends of copies that part, digit by digit.
+fn ends(bases: &[u16], a: &[u8], b: &[u8]) -> (u64, u64) {
+    let p = (0..bases.len()).find(|&i| a[i] != b[i]).expect("the copies part");
+    let value = |digit: &dyn Fn(usize) -> u64| (0..bases.len()).fold(0, |x, i| x * u64::from(bases[i]) + digit(i));
+    let low = value(&|i| if i <= p { a[i].into() } else { u64::from(bases[i]) - 1 });
+    let high = value(&|i| if i <= p { b[i].into() } else { 0 });
+    (low, high)
+}
+
+/// Copies of four places with small bases.
+#[test]
+fn ends_all_pairs_of_copies() {
+    let bases = [2, 3, 2, 4];
+    let digits = |count: u8| [count / 24, count / 8 % 3, count / 4 % 2, count % 4];
+    for (a, b) in (0..48).flat_map(|a| (0..48).map(move |b| (a, b))) {
+        let mut lent = about_to_end(&bases, &digits(a), &digits(b));
+        match a.cmp(&b) {
+            Ordering::Equal => assert_eq!(run(&mut lent, "0600").1, bytes(&format!("01 00 {a:016x}"))),
+            Ordering::Greater => refused(&mut lent, "", "0600", 10),
+            Ordering::Less => {
+                let (low, high) = ends(&bases, &digits(a), &digits(b));
+                assert!(u64::from(a) <= low && low < high && high <= u64::from(b));
+                assert_eq!(run(&mut lent, "0600").1, between(low, high));
             }
         }
     }
@@ -242,13 +303,16 @@ fn refusal_12_log_full() {
         ("0400 0600", "0600", "01 00 0000000000000004"),
         ("050001 0600 0600 0600", "0600", "02 00 01 00000000"),
         ("050001 0600 020000 03 0600 0600", "0600", "03 00 01"),
+        ("0400 0600 01 0000000000000007 03", "0600", "04 00 0000000000000004 0000000000000007"),
     ] {
         let mut lent = opened(&[10], 4);
         assert_eq!(run(&mut lent, begin).2, 0);
         let before = lent.clone();
         let entry = bytes(entry);
-        assert_eq!(run_with(&mut lent, RECORDS, end, entry.len() - 1), (0, vec![], 12));
-        assert_eq!(lent, before);
+        for room in 0..entry.len() {
+            assert_eq!(run_with(&mut lent, RECORDS, end, room), (0, vec![], 12), "{room}");
+            assert_eq!(lent, before);
+        }
         assert_eq!(run_with(&mut lent, RECORDS, end, entry.len()), (1, entry, 0));
     }
 }
@@ -259,13 +323,15 @@ fn steps_as_it_runs() {
     let step = |lent: &mut Owned, command: &str| plain::step(&mut lent.lend(), RECORDS, &command_of(&bytes(command)));
     let mut stepped = opened(&[10], 4);
     let mut ran = stepped.clone();
-    // Reader 1 gives up after two attempts that a record write meets, then reader 0 accepts; then a count is shown.
+    // Reader 1 gives up after two attempts that a record write meets, then reader 0 accepts; then a count is shown, and
+    // a count read meets a write.
     let torn = "050102 0601 020001 03 0601 0601 0601 0601 0601 0601 | 0601 03 03 03 050001 0600 0600 0600 | 0600 \
-                01,0000000000000007 03 03 0401 0601 | 0601 0401 0701";
+                01,0000000000000007 03 03 0401 0601 | 0601 0401 0601 01,0000000000000009 03 | 0601 03 0401 0701";
     let mut told = [
         Outcome { kind: 3, reader: 1, attempts: 2, ..nothing },
         Outcome { kind: 2, reader: 0, attempts: 1, version: 1, ..nothing },
         Outcome { kind: 1, reader: 1, count: 7, ..nothing },
+        Outcome { kind: 4, reader: 1, low: 7, high: 9, ..nothing },
     ]
     .into_iter();
     let mut ends = false;

@@ -10,7 +10,7 @@ use std::process::exit;
 use std::time::{Duration, Instant};
 use std::{env, fmt};
 
-use lagumtay::raw::{Answer, Format};
+use lagumtay::raw::{Answer, Format, LONGEST_ENTRY};
 use lagumtay_bench::owned::Owned;
 use lagumtay_bench::plain::{self, number};
 use lagumtay_bench::random::Random;
@@ -102,7 +102,7 @@ impl Case {
         case.name = name;
         case.begins.truncate(commands + 1);
         case.bytes.truncate(case.begins[commands]);
-        case.opened.log = vec![0; 10 * commands];
+        case.opened.log = vec![0; LONGEST_ENTRY * commands];
         case
     }
 
@@ -162,7 +162,7 @@ impl Case {
         let mut case = Case::empty(Hall::open(&[10, 24, 60, 60], format, 0, lent));
         // A page that follows, to know who is idle: nothing is refused.
         let mut follower = case.opened.clone();
-        follower.log = vec![0; 10];
+        follower.log = vec![0; LONGEST_ENTRY];
         let mut count = 0;
         while case.commands() < commands {
             // The writer has one turn in five, or in two beside a single reader.

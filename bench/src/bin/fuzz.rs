@@ -9,12 +9,15 @@
 //! contents.) CASE replays that one alone. Exit status 1: some call differed.
 use std::fmt;
 
-use lagumtay::raw::{self, Answer, Command, Format, Outcome, Reader, Writer, PACKED};
+use lagumtay::raw::{self, Answer, Command, Format, Outcome, Reader, Writer, LONGEST_ENTRY, PACKED};
+use lagumtay::{Entries, Entry};
 use lagumtay_bench::owned::Owned;
 use lagumtay_bench::plain::{self, command_of, number};
 use lagumtay_bench::random::Random;
 
 const MOST_SHOWN: u64 = 10;
+/// The bytes of the entry of a count shown.
+const COUNT_ENTRY: usize = 10;
 
 #[derive(Clone, Copy, Debug, Default, PartialEq)]
 enum Function {
@@ -94,6 +97,13 @@ impl Call {
         }
     }
 
+    /// After a run that was refused by 12: the bytes left in the log, if the step that did not fit ends between.
+    fn room_left_to_part(&self, answer: Answer) -> Option<usize> {
+        let step = command_of(self.commands[answer.taken..].first_chunk::<2>()?);
+        let (outcome, _) = plain::step(&mut self.lent.clone().lend(), &self.records, &step);
+        (outcome.kind == 4).then(|| self.log.len() - answer.written)
+    }
+
     /// Would a run, a step or a cancel be refused by 1, 2 or 3?
     fn damaged(&self) -> bool {
         plain::run(&mut self.lent.clone().lend(), &self.records, &[], &mut []).1.is_err()
@@ -126,9 +136,42 @@ struct Totals {
     commands: u64,
     command_bytes: u64,
     log_bytes: u64,
-    /// steps by the kind of what they told
-    outcomes: [u64; 4],
+    /// entries of logs, and steps, by the kind of what they told
+    entries: [u64; 5],
+    outcomes: [u64; 5],
+    /// entries of copies that part which did not fit, by the bytes left in the log
+    parting: [u64; LONGEST_ENTRY],
     differed: u64,
+}
+
+impl Totals {
+    /// A call that was made, and what it told.
+    fn add(&mut self, call: &Call, Told { answer, outcome }: Told, ending: u8) {
+        self.calls += 1;
+        self.functions[call.function as usize] += 1;
+        self.endings[usize::from(ending).min(13)] += 1;
+        self.commands += answer.done as u64;
+        self.command_bytes += answer.taken as u64;
+        self.log_bytes += answer.written as u64;
+        match call.function {
+            Function::Step => self.outcomes[usize::from(outcome.kind)] += 1,
+            Function::Run => {
+                Entries::new(&call.log[..answer.written]).for_each(|entry| self.entries[kind_of(entry)] += 1);
+                let left = if ending == 12 { call.room_left_to_part(answer) } else { None };
+                left.into_iter().for_each(|room| self.parting[room] += 1);
+            }
+            _ => {}
+        }
+    }
+}
+
+fn kind_of(entry: Entry) -> usize {
+    match entry {
+        Entry::Shown { .. } => 1,
+        Entry::Accepted { .. } => 2,
+        Entry::GaveUp { .. } => 3,
+        Entry::Between { .. } => 4,
+    }
 }
 
 /// Where a case stands.
@@ -149,15 +192,7 @@ impl Case<'_> {
         let mut theirs = self.call.clone();
         let (told, ending) = self.call.plain();
         let (their_told, their_ending) = theirs.archive();
-        self.totals.calls += 1;
-        self.totals.functions[before.function as usize] += 1;
-        self.totals.endings[usize::from(ending).min(13)] += 1;
-        self.totals.commands += told.answer.done as u64;
-        self.totals.command_bytes += told.answer.taken as u64;
-        self.totals.log_bytes += told.answer.written as u64;
-        if before.function == Function::Step {
-            self.totals.outcomes[usize::from(told.outcome.kind)] += 1;
-        }
+        self.totals.add(&self.call, told, ending);
         let same = (told, ending) == (their_told, their_ending) && self.call == theirs;
         if self.verbose {
             println!("{before}  ends with {ending} {told:?}\n");
@@ -308,26 +343,48 @@ impl Case<'_> {
         self.call.function = Function::Run;
         self.call.commands.clear();
         let mut follower = self.call.lent.clone();
-        for _ in 0..self.random.between(1, 12) {
+        let mut entries = Vec::new();
+        // In short turns the writer meets more reads.
+        let short = self.random.one_in(2);
+        for _ in 0..self.random.between(1, if short { 60 } else { 12 }) {
             let writes = self.random.one_in(3);
             let who = self.some_reader();
             let n = follower.format.n;
-            let steps = self.random.of(&[1, 1, 2, 5, 9, n, 2 * n + 8]);
+            let steps = if short { self.random.between(1, 3) } else { self.random.of(&[1, 1, 2, 5, 9, n, 2 * n + 8]) };
             for _ in 0..steps {
                 let command = if writes {
                     self.writer_command(&follower.writer)
                 } else {
                     self.reader_command(who, follower.readers.get(usize::from(who)))
                 };
-                let (_, ending) = plain::run(&mut follower.lend(), &self.call.records, &command, &mut [0; 10]);
+                let mut log = [0; LONGEST_ENTRY];
+                let (answer, ending) = plain::run(&mut follower.lend(), &self.call.records, &command, &mut log);
+                if answer.written > 0 {
+                    entries.push(answer.written);
+                }
                 // A run ends with its first refused command: few are let through.
                 if ending.is_ok() || self.random.one_in(60) {
                     self.call.commands.extend_from_slice(&command);
                 }
             }
         }
-        let room = if self.random.one_in(8) { self.random.below(30) } else { 8 * self.call.commands.len() };
+        let room = self.room(&entries);
         self.call.log = self.random.bytes(room.min(400));
+    }
+
+    /// The room in the log of a schedule that makes entries of these sizes: mostly enough, now and then any, and now and
+    /// then such that one of the entries just fits or does not; the first of copies that part, if there is one, since
+    /// with 10 to 17 bytes left a count shown would fit.
+    fn room(&mut self, entries: &[usize]) -> usize {
+        match self.random.below(8) {
+            0 => self.random.below(30),
+            1 | 2 if !entries.is_empty() => {
+                let parting = entries.iter().position(|&size| size == LONGEST_ENTRY);
+                let at = parting.unwrap_or_else(|| self.random.below(entries.len()));
+                entries[..at].iter().sum::<usize>() + self.random.below(entries[at] + 1)
+            }
+            _ => LONGEST_ENTRY * self.call.commands.len(),
+        }
     }
 
     fn writer_command(&mut self, writer: &Writer) -> Vec<u8> {
@@ -595,6 +652,10 @@ fn random_bytes(random: &mut Random, most: usize) -> Vec<u8> {
     random.bytes(length)
 }
 
+fn reads([_, shown, accepted, gave_up, between]: [u64; 5]) -> String {
+    format!("{shown} showed a count, {between} were between two, {accepted} accepted a record, {gave_up} gave up")
+}
+
 /// How many calls differed.
 fn compared(calls: u64, seed: u64, only: Option<u64>) -> u64 {
     let mut totals = Totals::default();
@@ -623,8 +684,10 @@ fn compared(calls: u64, seed: u64, only: Option<u64>) -> u64 {
     println!("{cancel} of cancel, {pack} of pack, {unpack} of unpack");
     let Totals { commands, command_bytes, log_bytes, .. } = totals;
     println!("runs: {commands} commands of {command_bytes} bytes carried out, {log_bytes} log bytes written");
-    let [nothing, shown, accepted, gave_up] = totals.outcomes;
-    println!("steps: {shown} showed a count, {accepted} accepted a record, {gave_up} gave up, {nothing} told nothing");
+    println!("logs: {}", reads(totals.entries));
+    println!("steps: {}, {} told nothing", reads(totals.outcomes), totals.outcomes[0]);
+    let [all, with_room] = [0, COUNT_ENTRY].map(|least| totals.parting[least..].iter().sum::<u64>());
+    println!("copies that part: {all} times no room for both ends, {with_room} of them with room for one count");
     for (number, count) in totals.endings.iter().enumerate().filter(|(_, &count)| count > 0) {
         println!("ended with {number}: {count}");
     }

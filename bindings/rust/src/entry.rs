@@ -1,9 +1,10 @@
 //! What a run tells in its log, and a step at once.
 use crate::{raw, Count, Version};
 
-/// How a read ended.
+/// How a read ended: a count read as shown or between, a record read as accepted or given up.
 #[derive(Clone, Copy, Debug, PartialEq, Eq)]
 pub enum Entry {
+    /// The copies were equal: a count that somebody wrote.
     Shown {
         reader: u8,
         count: Count,
@@ -18,17 +19,34 @@ pub enum Entry {
         reader: u8,
         attempts: u8,
     },
+    /// The copies part: the low end is below the high end, and nobody needs to have written either.
+    Between {
+        reader: u8,
+        low: Count,
+        high: Count,
+    },
 }
 
 impl Entry {
     /// What a step tells, if it ended a read.
     pub(crate) fn told(outcome: raw::Outcome) -> Option<Entry> {
-        let raw::Outcome { kind, reader, attempts, version, count } = outcome;
+        let raw::Outcome { kind, reader, attempts, version, count, low, high } = outcome;
         match kind {
             1 => Some(Entry::Shown { reader, count: Count(count) }),
             2 => Some(Entry::Accepted { reader, attempts, version: Version(version) }),
             3 => Some(Entry::GaveUp { reader, attempts }),
+            4 => Some(Entry::Between { reader, low: Count(low), high: Count(high) }),
             _ => None,
+        }
+    }
+
+    /// The count that a board with one number shows: that of equal copies, else the high end, which is the count that
+    /// document 01 shows where the copies part. None for a record read.
+    pub fn shown(&self) -> Option<Count> {
+        match *self {
+            Entry::Shown { count, .. } => Some(count),
+            Entry::Between { high, .. } => Some(high),
+            Entry::Accepted { .. } | Entry::GaveUp { .. } => None,
         }
     }
 }
@@ -48,16 +66,52 @@ impl Iterator for Entries<'_> {
 
     fn next(&mut self) -> Option<Entry> {
         let (entry, rest) = match *self.0 {
-            [1, reader, a, b, c, d, e, f, g, h, ref rest @ ..] => {
-                (Entry::Shown { reader, count: Count(u64::from_be_bytes([a, b, c, d, e, f, g, h])) }, rest)
+            [1, reader, ref rest @ ..] => {
+                let (count, rest) = take_count(rest)?;
+                (Entry::Shown { reader, count }, rest)
             }
             [2, reader, attempts, a, b, c, d, ref rest @ ..] => {
                 (Entry::Accepted { reader, attempts, version: Version(u32::from_be_bytes([a, b, c, d])) }, rest)
             }
             [3, reader, attempts, ref rest @ ..] => (Entry::GaveUp { reader, attempts }, rest),
+            [4, reader, ref rest @ ..] => {
+                let (low, rest) = take_count(rest)?;
+                let (high, rest) = take_count(rest)?;
+                (Entry::Between { reader, low, high }, rest)
+            }
             _ => return None,
         };
         self.0 = rest;
         Some(entry)
+    }
+}
+
+/// The count in front of these bytes, if it is whole, and the bytes after it.
+fn take_count(bytes: &[u8]) -> Option<(Count, &[u8])> {
+    let (count, rest) = bytes.split_first_chunk()?;
+    Some((Count(u64::from_be_bytes(*count)), rest))
+}
+
+#[cfg(test)]
+mod tests {
+    use super::*;
+
+    const SHOWN: Entry = Entry::Shown { reader: 1, count: Count(5) };
+    const ACCEPTED: Entry = Entry::Accepted { reader: 1, attempts: 2, version: Version(3) };
+    const GAVE_UP: Entry = Entry::GaveUp { reader: 1, attempts: 2 };
+    const BETWEEN: Entry = Entry::Between { reader: 1, low: Count(6), high: Count(7) };
+
+    #[test]
+    fn each_kind_has_its_fields() {
+        let all = raw::Outcome { kind: 0, reader: 1, attempts: 2, version: 3, count: 5, low: 6, high: 7 };
+        let told = |kind| Entry::told(raw::Outcome { kind, ..all });
+        assert_eq!([1, 2, 3, 4].map(told), [SHOWN, ACCEPTED, GAVE_UP, BETWEEN].map(Some));
+        assert_eq!([0, 5, 255].map(told), [None; 3]);
+    }
+
+    #[test]
+    fn one_number_is_the_count_or_the_high_end() {
+        assert_eq!([SHOWN, BETWEEN].map(|entry| entry.shown()), [Some(Count(5)), Some(Count(7))]);
+        assert_eq!([ACCEPTED, GAVE_UP].map(|entry| entry.shown()), [None; 2]);
     }
 }

@@ -9,6 +9,9 @@
 //! of its digits moved by another; the same for reads. [`Page::run`] carries out a list of commands and tells in a log
 //! how reads ended; [`Page::step`] carries out one command and tells it at once. A [`Page`] owns its memory; [`raw`] is
 //! for callers who own it themselves.
+//!
+//! A count read that meets a write may end as [`Entry::Between`] two counts; [`Entry::shown`] is for who wants one
+//! number.
 
 mod entry;
 pub mod raw;
@@ -207,7 +210,8 @@ impl Page {
 
     /// Carry out commands up to the first that is refused. `records` are the lent records, n bytes each. Each run may
     /// bring new ones while no record write is pending; while one is, the record at its index ([`Page::pending_record`])
-    /// must stay the one that was announced, or a reader may accept a mixture of both.
+    /// must stay the one that was announced, or a reader may accept a mixture of both. A command whose entry does not
+    /// fit the log is refused and can be run again with another log; [`raw::LONGEST_ENTRY`] bytes free are always enough.
     pub fn run<'a>(&mut self, records: &[u8], commands: &[u8], log: &'a mut [u8]) -> Ran<'a> {
         let (answer, number) = self.lend(|lent| lent.run(records, commands, log));
         Ran { done: answer.done, log: &log[..answer.written], taken: answer.taken, ending: ending(number) }

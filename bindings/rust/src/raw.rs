@@ -58,7 +58,8 @@ pub struct Command {
 }
 
 /// Mirrors `lagumtay_outcome`: what a step tells, by the kinds of the log's entries. Kind 0: no read finished; 1: a
-/// count shown; 2: a record accepted; 3: a read gave up. Fields that the kind does not have are zero.
+/// count shown; 2: a record accepted; 3: a read gave up; 4: between two counts, the low end and the high end. Fields
+/// that the kind does not have are zero.
 #[repr(C)]
 #[derive(Clone, Copy, Debug, Default, PartialEq, Eq)]
 pub struct Outcome {
@@ -67,10 +68,15 @@ pub struct Outcome {
     pub attempts: u8,
     pub version: u32,
     pub count: u64,
+    pub low: u64,
+    pub high: u64,
 }
 
 /// How many bytes a reader's state has when it is packed.
 pub const PACKED: usize = 27;
+
+/// How many bytes the longest entry of a log has: with so many free there always is room for the next one.
+pub const LONGEST_ENTRY: usize = 18;
 
 extern "C" {
     fn lagumtay_open(
@@ -206,7 +212,8 @@ impl Lent<'_> {
     #[inline] // as `run`
     pub fn step(&mut self, records: &[u8], command: &Command) -> (Outcome, u8) {
         // No outcome that a step has, so that one that is not written is seen.
-        let mut outcome = Outcome { kind: 255, reader: 255, attempts: 255, version: u32::MAX, count: u64::MAX };
+        let [count, low, high] = [u64::MAX; 3];
+        let mut outcome = Outcome { kind: 255, reader: 255, attempts: 255, version: u32::MAX, count, low, high };
         let ending = unsafe { call!(lagumtay_step, self, records.as_ptr(), records.len(), command, &mut outcome) };
         (outcome, ending)
     }
@@ -245,8 +252,9 @@ mod tests {
         assert_eq!([offset_of!(Command, index), offset_of!(Command, count)], [4, 8]);
         assert_eq!([offset_of!(Outcome, kind), offset_of!(Outcome, reader), offset_of!(Outcome, attempts)], [0, 1, 2]);
         assert_eq!([offset_of!(Outcome, version), offset_of!(Outcome, count)], [4, 8]);
+        assert_eq!([offset_of!(Outcome, low), offset_of!(Outcome, high)], [16, 24]);
         assert_eq!([size_of::<Format>(), size_of::<Writer>(), size_of::<Reader>()], [32; 3]);
-        assert_eq!([size_of::<Answer>(), size_of::<Command>(), size_of::<Outcome>()], [24, 16, 16]);
+        assert_eq!([size_of::<Answer>(), size_of::<Command>(), size_of::<Outcome>()], [24, 16, 32]);
         assert_eq!([align_of::<Format>(), align_of::<Writer>(), align_of::<Reader>()], [8; 3]);
         assert_eq!([align_of::<Answer>(), align_of::<Command>(), align_of::<Outcome>()], [8; 3]);
     }
@@ -258,7 +266,7 @@ mod tests {
         writer: Writer,
         readers: [Reader; 3],
         buffers: [u8; 15],
-        log: [u8; 16],
+        log: [u8; LONGEST_ENTRY],
     }
 
     impl Memory {
@@ -269,7 +277,7 @@ mod tests {
                 writer: Writer { count: 9, index: 9, steps: 9, version: 9, kind: 9 },
                 readers: [Reader { kind: 9, allowed: 9, finished: 9, steps: 9, digits: [9; 16] }; 3],
                 buffers: [9; 15],
-                log: [0; 16],
+                log: [0; LONGEST_ENTRY],
             };
             assert_eq!(memory.lend().0.open(100, &RECORDS[..5]), 0);
             memory
@@ -324,6 +332,27 @@ mod tests {
 
         assert_eq!(memory.run(&[6, 1, 6, 1]), (1, 10, 7));
         assert_eq!(memory.log[..10], [1, 1, 0, 0, 0, 0, 0, 0, 1, 44]);
+    }
+
+    /// With a's 1, 3, 1 gathered, 4, 1, 3 is written; then all but the last digit of b is gathered.
+    fn about_to_part() -> Memory {
+        let mut memory = Memory::opened();
+        assert_eq!(memory.run(&[4, 1, 6, 1, 6, 1, 6, 1]), (4, 0, 0));
+        assert_eq!(memory.run(&[1, 0, 0, 0, 0, 0, 0, 1, 44, 3, 3, 3, 3, 3, 3]), (7, 0, 0));
+        assert_eq!(memory.run(&[6, 1, 6, 1]), (2, 0, 0));
+        memory
+    }
+
+    /// The low end is 1, 7, 8 in bases 7, 8, 9, the high end 4, 0, 0.
+    #[test]
+    fn the_archive_tells_both_ends() {
+        let mut ran = about_to_part();
+        assert_eq!(ran.run(&[6, 1]), (1, LONGEST_ENTRY, 0));
+        assert_eq!(ran.log, [4, 1, 0, 0, 0, 0, 0, 0, 0, 143, 0, 0, 0, 0, 0, 0, 1, 32]);
+        let mut stepped = about_to_part();
+        let told = Outcome { kind: 4, reader: 1, low: 143, high: 288, ..Outcome::default() };
+        assert_eq!(stepped.step(Command { kind: 6, reader: 1, ..Command::default() }), (told, 0));
+        assert_eq!([stepped.readers, ran.readers], [[Reader::default(); 3]; 2]);
     }
 
     /// A value that no steps could leave is seen in each field.

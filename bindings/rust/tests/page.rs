@@ -72,13 +72,13 @@ fn schedule() -> Vec<Command> {
 }
 
 const ACCEPTED: Entry = Entry::Accepted { reader: 0, attempts: 2, version: Version(1) };
-const SHOWN: Entry = Entry::Shown { reader: 0, count: Count(7) };
+const BETWEEN: Entry = Entry::Between { reader: 0, low: Count(4), high: Count(7) };
 
 #[test]
 fn runs_the_schedule_of_document_01() {
     let mut page = opened(&[10], 4);
     assert_eq!(schedule().len(), 20);
-    assert_eq!(go(&mut page, &schedule()), [ACCEPTED, SHOWN]);
+    assert_eq!(go(&mut page, &schedule()), [ACCEPTED, BETWEEN]);
     assert_eq!(page.buffer(0), Some(&b"bb"[..]));
 }
 
@@ -96,7 +96,7 @@ fn steps_through_the_schedule_of_document_01() {
             told.push((i, entry));
         }
     }
-    assert_eq!(told, [(13, ACCEPTED), (19, SHOWN)]);
+    assert_eq!(told, [(13, ACCEPTED), (19, BETWEEN)]);
     let mut at_once = opened(&[10], 4);
     go(&mut at_once, &schedule());
     assert_eq!(page, at_once);
@@ -167,7 +167,53 @@ fn a_later_read_may_show_less_than_one_that_it_overlaps() {
     let second = go(&mut page, &[&[BeginCountRead(1)][..], &steps(ReaderStep(1), 6)].concat());
     let first = go(&mut page, &steps(ReaderStep(0), 3));
     assert_eq!(second, [Entry::Shown { reader: 1, count: Count(150) }]);
-    assert_eq!(first, [Entry::Shown { reader: 0, count: Count(100) }]);
+    assert_eq!(first, [Entry::Between { reader: 0, low: Count(99), high: Count(100) }]);
+    assert_eq!((first[0].shown(), second[0].shown()), (Some(Count(100)), Some(Count(150))));
+}
+
+/// One step before the end of a count read: it gathered the first copy, 11:57, before this count was written.
+fn about_to_end(written: u64) -> Page {
+    let mut page = opened(&[24, 60], 11 * 60 + 57);
+    go(&mut page, &[&[BeginCountRead(1)][..], &steps(ReaderStep(1), 2)].concat());
+    go(&mut page, &[&[WriteCount(Count(written))][..], &steps(WriterStep, 4), &[ReaderStep(1)]].concat());
+    page
+}
+
+#[test]
+fn equal_copies_show_a_count_though_a_write_was_met() {
+    let mut page = about_to_end(11 * 60 + 57);
+    let shown = Entry::Shown { reader: 1, count: Count(11 * 60 + 57) };
+    assert_eq!(page.clone().step(b"", ReaderStep(1)), Ok(Some(shown)));
+    assert_eq!(go(&mut page, &[ReaderStep(1)]), [shown]);
+}
+
+/// The low end has the largest digits of each place's own base.
+#[test]
+fn copies_that_part_give_both_ends() {
+    for (written, low, high) in [(12 * 60 + 4, 11 * 60 + 59, 12 * 60), (11 * 60 + 58, 11 * 60 + 57, 11 * 60 + 58)] {
+        let mut page = about_to_end(written);
+        let between = Entry::Between { reader: 1, low: Count(low), high: Count(high) };
+        assert_eq!(page.clone().step(b"", ReaderStep(1)), Ok(Some(between)));
+        assert_eq!(go(&mut page, &[ReaderStep(1)]), [between]);
+    }
+}
+
+#[test]
+fn a_log_without_room_for_both_ends_is_refused() {
+    let mut page = about_to_end(12 * 60 + 4);
+    let before = page.clone();
+    for room in 0..18 {
+        let mut log = vec![0xee; room];
+        let ran = page.run(b"", &[6, 1], &mut log);
+        assert_eq!((ran.done, ran.log.len(), ran.taken, ran.ending), (0, 0, 0, Err(Refusal::LogFull)), "{room}");
+        assert_eq!((&page, log), (&before, vec![0xee; room]));
+    }
+    let mut log = [0; 18];
+    let ran = page.run(b"", &[6, 1], &mut log);
+    assert_eq!((ran.done, ran.log.len(), ran.taken, ran.ending), (1, 18, 2, Ok(())));
+    let between = Entry::Between { reader: 1, low: Count(11 * 60 + 59), high: Count(12 * 60) };
+    assert_eq!(ran.entries().collect::<Vec<_>>(), [between]);
+    assert_eq!(page.step(b"", ReaderStep(1)), Err(Refusal::NothingPending));
 }
 
 #[test]
@@ -221,17 +267,25 @@ fn cancels_a_read() {
 
 #[test]
 fn reads_logs() {
-    let log = [1, 3, 0, 0, 0, 0, 0, 0, 1, 2, 2, 4, 5, 0, 0, 1, 0, 3, 6, 7];
+    let log = [
+        &[1, 3, 0, 0, 0, 0, 0, 0, 1, 2][..],
+        &[2, 4, 5, 0, 0, 1, 0],
+        &[4, 8, 0, 0, 0, 0, 0, 0, 2, 3, 1, 0, 0, 0, 0, 0, 0, 4],
+        &[3, 6, 7],
+    ]
+    .concat();
     let entries: Vec<Entry> = Entries::new(&log).collect();
     assert_eq!(
         entries,
         [
             Entry::Shown { reader: 3, count: Count(258) },
             Entry::Accepted { reader: 4, attempts: 5, version: Version(256) },
+            Entry::Between { reader: 8, low: Count(515), high: Count(1 << 56 | 4) },
             Entry::GaveUp { reader: 6, attempts: 7 },
         ]
     );
     assert_eq!(Entries::new(&log[..9]).count(), 0);
+    assert_eq!([17, 34, 35].map(|length| Entries::new(&log[..length]).count()), [2, 2, 3]);
     assert_eq!(Entries::new(&[9, 0, 0]).count(), 0);
 }
 
