@@ -6,7 +6,7 @@ use Prim.Native.Nat.{ℕ, _≤_, _<_}
 use lib.Dec.{eqb}
 use lib.ListN.{length}
 use borrow.Author.Tests.{lt-ltb, le-ltb, eq-eqb, ne-eqb}
-use Rattle.protocol.specs.Form.{Form, versionBases, countSteps, recordSteps}
+use Rattle.protocol.specs.Form.{Form, own, versionBases, countSteps, recordSteps}
 use Rattle.protocol.specs.Allowed.{versionDigits}
 use Rattle.protocol.specs.Memory.{readerOf}
 use Rattle.protocol.specs.declared.Stage.{Stage}
@@ -33,7 +33,7 @@ module _ (F : Form) (few : small F ≡ true) (s : Stage) (l : List ℕ) (long : 
 
   pub record-fine :
       s .kind ≡ 2 → s .finished < s .allowed → s .steps < recordSteps F →
-      gatheredOk (versionBases F) l (versionDigits F (s .steps)) ≡ validReader F (readerOf s l)
+      gatheredOk (versionBases F) (F .q) l (versionDigits F (s .steps)) ≡ validReader F (readerOf s l)
   unfolding readerOk
   record-fine k h g =
       rw (← ok, k, lt-ltb (s .finished) (s .allowed) h, lt-ltb (s .steps) (recordSteps F) g)
@@ -66,7 +66,7 @@ module _ (F : Form) (few : small F ≡ true) (s : Stage) (l : List ℕ) (long : 
 
   pub none-fine :
       s .kind ≡ 0 → s .allowed ≡ 0 → s .finished ≡ 0 → s .steps ≡ 0 →
-      gatheredOk (F .bases) l 0 ≡ validReader F (readerOf s l)
+      gatheredOk (F .bases) (own F) l 0 ≡ validReader F (readerOf s l)
   unfolding readerOk
   none-fine k a f h = rw (← ok, k, a, f, eq-eqb (s .steps) 0 h)
 
@@ -82,6 +82,6 @@ module _ (F : Form) (few : small F ≡ true) (s : Stage) (l : List ℕ) (long : 
 
   pub count-fine :
       s .kind ≡ 1 → s .allowed ≡ 0 → s .finished ≡ 0 → s .steps < countSteps F →
-      gatheredOk (F .bases) l (s .steps) ≡ validReader F (readerOf s l)
+      gatheredOk (F .bases) (own F) l (s .steps) ≡ validReader F (readerOf s l)
   unfolding readerOk
   count-fine k a f h = rw (← ok, k, a, f, lt-ltb (s .steps) (countSteps F) h)

@@ -19,7 +19,8 @@ good-counts F good =
     let (b, bytes) = both _ (between 1 256 (F .n)) a in
     let (d, base) = both _ (goodBase (F .base)) b in
     let (e, versions) = both _ (between 1 4 (F .q)) d in
-    both (leb 1 (m F)) (goodBases (F .bases)) e .1
+    let (f, layout) = both _ (leb (F .shared) 1) e in
+    both (leb 1 (m F)) (goodBases (F .bases)) f .1
 
 all-same : (q b : ℕ) → goodBase b ≡ true → all goodBase (replicate q b) ≡ true
 all-same zero b h = refl
@@ -37,13 +38,14 @@ good-versions F good = let r = in-range F good in good-same (F .q) (F .base) (om
 
 -- past all other tests a form is good if there are not too many readers
 pub form-is :
-    (F : Form) → 1 ≤ m F → goodBases (F .bases) ≡ true → (1 ≤ F .q) × (F .q ≤ 4) →
+    (F : Form) → 1 ≤ m F → goodBases (F .bases) ≡ true → F .shared ≤ 1 → (1 ≤ F .q) × (F .q ≤ 4) →
     (2 ≤ F .base) × (F .base ≤ 256) → (1 ≤ F .n) × (F .n ≤ 256) → 1 ≤ F .readers → leb (F .readers) 16 ≡ goodForm F
 unfolding goodForm
-form-is F some bases (q₁, q₄) (b₂, b₂₅₆) (n₁, n₂₅₆) readers =
+form-is F some bases shared (q₁, q₄) (b₂, b₂₅₆) (n₁, n₂₅₆) readers =
     rw (
       le-leb 1 (m F) some,
       bases,
+      le-leb (F .shared) 1 shared,
       le-leb 1 (F .q) q₁,
       le-leb (F .q) 4 q₄,
       le-leb 2 (F .base) b₂,

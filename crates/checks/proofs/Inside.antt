@@ -39,11 +39,13 @@ module _ (F : Form) (k : ℕ) where
           omega (arith, attempt-byte F k i j)
       go false false x y = let j = ltb-false k (F .q + F .n) y in omega (arith, attempt-second F k j h)
 
-module _ (w k : ℕ) (inside : k < w + w) where
-  pub there-inside : thereAndBack w k < w
-  there-inside = by-cond (λ p. p < w) (ltb k w) (ltb-true k w) (λ e. let g = ltb-false k w e in omega arith)
+module _ (out back k : ℕ) (inside : k < out + back) where
+  pub there-inside : out ≤ back → thereAndBack out back k < back
+  there-inside within =
+      by-cond (λ p. p < back) (ltb k out) (λ e. let g = ltb-true k out e in omega arith)
+      (λ e. let g = ltb-false k out e in omega arith)
 
-  pub slot-inside : w ≤ 8 → slotOf w k < 16
-  slot-inside narrow =
-      by-cond (λ p. p < 16) (ltb k w) (λ e. let g = ltb-true k w e in omega arith)
-      (λ e. let g = ltb-false k w e in omega arith)
+  pub slot-inside : out ≤ 8 → back ≤ 8 → slotOf out back k < 16
+  slot-inside narrow few =
+      by-cond (λ p. p < 16) (ltb k out) (λ e. let g = ltb-true k out e in omega arith)
+      (λ e. let g = ltb-false k out e in omega arith)

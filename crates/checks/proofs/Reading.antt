@@ -1,6 +1,6 @@
 -- The code's tests of one reader, by its kind, are the protocol's. They ask small numbers only.
 use mathlib.Core.Path.{_≡_, refl, sym, subst, _∙_}
-use mathlib.Core.List.{List, _++_, reverse}
+use mathlib.Core.List.{List}
 use mathlib.Core.Bool.{Bool, true, false, _&&_, cond}
 use Prim.Native.Nat.{ℕ, _+_, _-_, _≤_, _<_, min}
 use native.Mathlib.Omega.{arith}
@@ -10,7 +10,8 @@ use borrow.Author.Tests.{eqb-true, eq-eqb, ltb-true, lt-ltb}
 use Rattle.radix.specs.Digits.{valid}
 use Rattle.protocol.specs.Lists.{every}
 use Rattle.protocol.specs.Load.{same}
-use Rattle.protocol.specs.Form.{Form, m, versionBases, countSteps, recordSteps}
+use Rattle.protocol.specs.Form.{Form, m, own, versionBases, countSteps, recordSteps}
+use Rattle.protocol.specs.Layout.{countBases}
 use Rattle.protocol.specs.State.{Reading}
 use Rattle.protocol.specs.Allowed.{allowedReading, versionDigits}
 use Rattle.protocol.specs.Memory.{storedDigits, storedReading}
@@ -29,12 +30,12 @@ readerOk F x =
     let kind = x .stage .kind in
     let steps = x .stage .steps in
     let idle = eqb (x .stage .allowed) 0 && eqb (x .stage .finished) 0 in
-    cond (eqb kind 0) (idle && eqb steps 0 && gatheredOk (F .bases) (x .digits) 0)
-    (cond (eqb kind 1) (idle && ltb steps (countSteps F) && gatheredOk (F .bases) (x .digits) steps)
+    cond (eqb kind 0) (idle && eqb steps 0 && gatheredOk (F .bases) (own F) (x .digits) 0)
+    (cond (eqb kind 1) (idle && ltb steps (countSteps F) && gatheredOk (F .bases) (own F) (x .digits) steps)
     (eqb kind 2
     && ltb (x .stage .finished) (x .stage .allowed)
     && ltb steps (recordSteps F)
-    && gatheredOk (versionBases F) (x .digits) (versionDigits F steps)))
+    && gatheredOk (versionBases F) (F .q) (x .digits) (versionDigits F steps)))
 
 module _ (F : Form) (bounds : Bounds F) (x : Reader) (long : length (x .digits) ≡ 16) where
   abbrev kind : ℕ
@@ -67,47 +68,47 @@ module _ (F : Form) (bounds : Bounds F) (x : Reader) (long : length (x .digits) 
         eqb-sym most 0,
         eqb-sym used 0,
         eqb-sym steps 0,
-        gathered-none (F .bases) l (bounds .places) long,
+        gathered-none (F .bases) l (own F) (omega arith) (bounds .places) long,
       )
 
   -- KIND 1
   abbrev counted : List ℕ
-  counted = loadDigits (m F) (min steps (m F)) (steps - m F) l
+  counted = loadDigits (own F) (min steps (m F)) (steps - m F) l
 
   count-code :
       kind ≡ 1 →
       readerOk F x
-      ≡ eqb most 0 && eqb used 0 && ltb steps (countSteps F) && gatheredOk (F .bases) l steps
+      ≡ eqb most 0 && eqb used 0 && ltb steps (countSteps F) && gatheredOk (F .bases) (own F) l steps
   unfolding readerOk
   count-code e = rw e
 
   abbrev countTests : Bool
   countTests =
-      (ltb (length counted) (countSteps F)
-      && valid (drop (countSteps F - length counted) (F .bases ++ reverse (F .bases))) counted)
+      (ltb (length counted) (countSteps F) && valid (drop (countSteps F - length counted) (countBases F)) counted)
       && (eqb 0 most
       && eqb 0 used
       && eqb (length counted) steps
-      && same (storedDigits (m F) (length counted - m F) counted) l)
+      && same (storedDigits (own F) (length counted - m F) counted) l)
 
   count-meant : kind ≡ 1 → tested (loadReading F x) ≡ countTests
   unfolding loadReading allowedReading storedReading
   count-meant e = rw e
 
   count-to :
-      eqb most 0 && eqb used 0 && ltb steps (countSteps F) && gatheredOk (F .bases) l steps ≡ true →
+      eqb most 0 && eqb used 0 && ltb steps (countSteps F) && gatheredOk (F .bases) (own F) l steps ≡ true →
       countTests ≡ true
+  unfolding countBases
   count-to h =
-      let (a, g) = both _ (gatheredOk (F .bases) l steps) h in
+      let (a, g) = both _ (gatheredOk (F .bases) (own F) l steps) h in
       let (b, s) = both _ (ltb steps (countSteps F)) a in
       let (p, q) = both (eqb most 0) (eqb used 0) b in
       let few : steps < countSteps F = ltb-true steps (countSteps F) s in
       let size : length counted ≡ steps =
-      gathered-length (F .bases) l steps (bounds .places) (omega arith) long
+      gathered-length (F .bases) l (own F) steps (omega arith) (bounds .places) (omega arith) long
       in
       let (v, z) =
-      both (valid (drop (countSteps F - length counted) (F .bases ++ reverse (F .bases))) counted) _
-      (sym (gathered-count (F .bases) l steps (bounds .places) (omega arith) long) ∙ g)
+      both (valid (drop (countSteps F - length counted) (countBases F)) counted) _
+      (sym (gathered-count (F .bases) l (own F) steps (omega arith) (bounds .places) (omega arith) long) ∙ g)
       in
       together (together (lt-ltb (length counted) (countSteps F) (omega arith)) v)
       (together
@@ -116,24 +117,25 @@ module _ (F : Form) (bounds : Bounds F) (x : Reader) (long : length (x .digits) 
 
   count-from :
       countTests ≡ true →
-      eqb most 0 && eqb used 0 && ltb steps (countSteps F) && gatheredOk (F .bases) l steps ≡ true
+      eqb most 0 && eqb used 0 && ltb steps (countSteps F) && gatheredOk (F .bases) (own F) l steps ≡ true
+  unfolding countBases
   count-from h =
-      let order = drop (countSteps F - length counted) (F .bases ++ reverse (F .bases)) in
+      let order = drop (countSteps F - length counted) (countBases F) in
       let (a, b) = both (ltb (length counted) (countSteps F) && valid order counted) _ h in
       let (x, v) = both (ltb (length counted) (countSteps F)) (valid order counted) a in
-      let (c, z) = both _ (same (storedDigits (m F) (length counted - m F) counted) l) b in
+      let (c, z) = both _ (same (storedDigits (own F) (length counted - m F) counted) l) b in
       let (d, s) = both _ (eqb (length counted) steps) c in
       let (p, q) = both (eqb 0 most) (eqb 0 used) d in
       let size : length counted ≡ steps = eqb-true (length counted) steps s in
       let low : length counted < countSteps F = ltb-true (length counted) (countSteps F) x in
       together
       (together (together (eqb-sym most 0 ∙ p) (eqb-sym used 0 ∙ q)) (lt-ltb steps (countSteps F) (omega arith)))
-      (gathered-count (F .bases) l steps (bounds .places) (omega arith) long ∙ together v z)
+      (gathered-count (F .bases) l (own F) steps (omega arith) (bounds .places) (omega arith) long ∙ together v z)
 
   when-count : kind ≡ 1 → Same
   when-count e =
       count-code e
-      ∙ same-test (eqb most 0 && eqb used 0 && ltb steps (countSteps F) && gatheredOk (F .bases) l steps)
+      ∙ same-test (eqb most 0 && eqb used 0 && ltb steps (countSteps F) && gatheredOk (F .bases) (own F) l steps)
       countTests count-to count-from
       ∙ sym (count-meant e)
 
@@ -146,7 +148,7 @@ module _ (F : Form) (bounds : Bounds F) (x : Reader) (long : length (x .digits) 
       readerOk F x
       ≡ ltb used most
       && ltb steps (recordSteps F)
-      && gatheredOk (versionBases F) l (versionDigits F steps)
+      && gatheredOk (versionBases F) (F .q) l (versionDigits F steps)
   unfolding readerOk
   record-code e = rw e
 
@@ -163,23 +165,22 @@ module _ (F : Form) (bounds : Bounds F) (x : Reader) (long : length (x .digits) 
 
   version-gathered :
       versionDigits F steps ≤ F .q + F .q →
-      gatheredOk (versionBases F) l (versionDigits F steps)
+      gatheredOk (versionBases F) (F .q) l (versionDigits F steps)
       ≡ every (λ d. ltb d (F .base)) version && same (storedDigits (F .q) (length version - F .q) version) l
   version-gathered few =
       let g : ℕ = versionDigits F steps in
       let e : length (versionBases F) ≡ F .q = length-replicate (F .q) (F .base) in
+      let ds : ℕ → List ℕ = λ w. loadDigits (F .q) (min g w) (g - w) l in
       subst (λ (w : ℕ).
-      gatheredOk (versionBases F) l g
-      ≡ every (λ d. ltb d (F .base)) (loadDigits w (min g w) (g - w) l)
-      && same
-      (storedDigits w (length (loadDigits w (min g w) (g - w) l) - w) (loadDigits w (min g w) (g - w) l)) l) e
-      (gathered-version (versionBases F) l g (omega (arith, bounds .versions)) (omega arith) long (F .base)
-      (λ p h. getD-replicate (F .q) p (F .base) 0 (omega arith)))
+      gatheredOk (versionBases F) (F .q) l g
+      ≡ every (λ d. ltb d (F .base)) (ds w) && same (storedDigits (F .q) (length (ds w) - w) (ds w)) l) e
+      (gathered-version (versionBases F) l (F .q) g (omega arith) (omega (arith, bounds .versions)) (omega arith) long
+      (F .base) (λ p h. getD-replicate (F .q) p (F .base) 0 (omega arith)))
 
   version-size : versionDigits F steps ≤ F .q + F .q → length version ≡ versionDigits F steps
   version-size few =
-      loaded-size (F .q) (versionDigits F steps) l (omega (arith, bounds .versions)) few
-      long
+      let narrow : F .q ≤ 8 = omega (arith, bounds .versions) in
+      loaded-size (F .q) (F .q) (versionDigits F steps) l (narrow, narrow) few long
 
   abbrev recordTests : Bool
   recordTests =
@@ -193,11 +194,11 @@ module _ (F : Form) (bounds : Bounds F) (x : Reader) (long : length (x .digits) 
   recordCode =
       ltb used most
       && ltb steps (recordSteps F)
-      && gatheredOk (versionBases F) l (versionDigits F steps)
+      && gatheredOk (versionBases F) (F .q) l (versionDigits F steps)
 
   record-to : recordCode ≡ true → recordTests ≡ true
   record-to h =
-      let (a, g) = both _ (gatheredOk (versionBases F) l (versionDigits F steps)) h in
+      let (a, g) = both _ (gatheredOk (versionBases F) (F .q) l (versionDigits F steps)) h in
       let (p, s) = both (ltb used most) (ltb steps (recordSteps F)) a in
       let low : steps < recordSteps F = ltb-true steps (recordSteps F) s in
       let few : versionDigits F steps ≤ F .q + F .q = omega arith in

@@ -36,6 +36,11 @@ pub and-false : (a : Bool) → a && false ≡ false
 and-false true = refl
 and-false false = refl
 
+-- a second test may be another one, where the first passes
+pub and-where : (a b c : Bool) → (a ≡ true → b ≡ c) → a && b ≡ a && c
+and-where true b c h = h refl
+and-where false b c h = refl
+
 -- a test the other way round
 pub not-below : (a b : ℕ) → leb a b ≡ true → ltb b a ≡ false
 not-below a b e = le-ltb b a (leb-true a b e)

@@ -18,8 +18,9 @@ eightOk bs digits at low high =
     (eqb (getD digits (at + p) 0) 0))
     (range 0 8)
 
--- sixteen digits, of which g are gathered: first the first copy from the left, then the second from the right
-unfoldable pub gatheredOk : (bases : List ℕ) → List ℕ → (g : ℕ) → Bool
-gatheredOk bs digits g =
+-- sixteen digits, of which g are gathered: first the first copy from the left, then the own digits of the second from the
+-- right
+unfoldable pub gatheredOk : (bases : List ℕ) → (own : ℕ) → List ℕ → (g : ℕ) → Bool
+gatheredOk bs own digits g =
     eightOk bs digits 0 0 (min g (length bs))
-    && eightOk bs digits 8 (length bs - (g - length bs)) (length bs)
+    && eightOk bs digits 8 (own - (g - length bs)) own

@@ -16,10 +16,10 @@ ofSmall F x = cond (small F) x 0
 abbrev pub inContent : Form → ℕ → Bool
 inContent F k = leb (F .q) k && ltb k (F .q + F .n)
 
--- of w digits that are visited there and back, the one of step k
-abbrev pub thereAndBack : (w k : ℕ) → ℕ
-thereAndBack w k = cond (ltb k w) k (w + w - 1 - k)
+-- the digit of step k, where so many are visited out, and so many back from the last one
+abbrev pub thereAndBack : (out back k : ℕ) → ℕ
+thereAndBack out back k = cond (ltb k out) k (out + back - 1 - k)
 
 -- where a reader keeps the digit of step k: the first eight places are of those there, the others of those back
-abbrev pub slotOf : (w k : ℕ) → ℕ
-slotOf w k = cond (ltb k w) k (8 + (w + w - 1 - k))
+abbrev pub slotOf : (there back k : ℕ) → ℕ
+slotOf there back k = cond (ltb k there) k (8 + (there + back - 1 - k))

@@ -13,6 +13,9 @@ pub fn good_format(format: Format, bases: &[u16]) -> bool
     if !radix::counts::good(bases) {
         return false;
     }
+    if 1 < format.layout {
+        return false;
+    }
     if format.q < 1 || 4 < format.q {
         return false;
     }

@@ -1,11 +1,11 @@
-// Where the digits of a page lie, and how many steps visit them: nowhere else is that computed. The page is c1, c2, v1,
-// the record's bytes, v2. Of a format whose numbers are out of range, answers that need its sums are 0.
+// Where the digits of a page lie, and how many steps visit them: nowhere else is that computed. The page is c1, c2's own
+// digits, v1, the record's bytes, v2. Of a format whose numbers are out of range, answers that need its sums are 0.
 ghost use mathlib.Core.Path.{_≡_};
 ghost use mathlib.Core.Bool.{_&&_, cond};
 ghost use Prim.Native.Nat.{_+_};
 ghost use lib.Dec.{leb};
 ghost use lib.ListN.{getD};
-ghost use Rattle.protocol.specs.Form.{formOf, countSteps, recordSteps};
+ghost use Rattle.protocol.specs.Form.{formOf, own as ownOf, countSteps, recordSteps};
 ghost use Rattle.protocol.specs.Layout.{countOrder, countReadOrder, recordOrder, attemptOrder};
 ghost use Rattle.protocol.specs.Allowed.{versionDigits};
 ghost use Rattle.checks.specs.Layout.{small as smallOf, ofSmall, inContent, thereAndBack, slotOf};
@@ -24,11 +24,23 @@ pub(crate) fn small(format: Format, bases: &[u16]) -> bool
     format.n <= 256
 }
 
+// Digits of a copy of the count that it does not share.
+pub fn own(format: Format, bases: &[u16]) -> usize
+    ensures { λ r. ⌜ r ≡ ownOf (formOf (now (bases .entry)) format) ⌝ }
+{
+    let m = bases.len();
+    let shared = format.layout as usize;
+    if m < shared {
+        return 0;
+    }
+    m - shared
+}
+
 // Steps of a count write, or of a count read.
 pub fn count_steps(format: Format, bases: &[u16]) -> usize
     ensures { λ r. ⌜ r ≡ countSteps (formOf (now (bases .entry)) format) ⌝ }
 {
-    bases.len() + bases.len()
+    bases.len() + own(format, bases)
 }
 
 // Steps of a record write, or of one attempt at a record read.
@@ -49,7 +61,7 @@ pub fn page_length(format: Format, bases: &[u16]) -> usize
     if !small(format, bases) {
         return 0;
     }
-    bases.len() + bases.len() + (format.q + format.n + format.q)
+    count_steps(format, bases) + (format.q + format.n + format.q)
 }
 
 // Where the record's bytes begin.
@@ -60,10 +72,10 @@ pub fn content_start(format: Format, bases: &[u16]) -> usize
     if !small(format, bases) {
         return 0;
     }
-    bases.len() + bases.len() + format.q
+    count_steps(format, bases) + format.q
 }
 
-// Where v2 begins. c1 begins at 0, c2 at m, v1 where a count's steps end.
+// Where v2 begins. c1 begins at 0, c2's own digits at m, v1 where a count's steps end.
 pub fn second_version(format: Format, bases: &[u16]) -> usize
     ensures { λ r. ⌜ r ≡ ofSmall (formOf (now (bases .entry)) format)
         (countSteps (formOf (now (bases .entry)) format) + format .q + format .n) ⌝ }
@@ -71,19 +83,20 @@ pub fn second_version(format: Format, bases: &[u16]) -> usize
     if !small(format, bases) {
         return 0;
     }
-    bases.len() + bases.len() + format.q + format.n
+    count_steps(format, bases) + format.q + format.n
 }
 
-// The position of step k of a count write: c2 left to right, c1 right to left.
+// The position of step k of a count write: c2's own digits left to right, c1 right to left.
 pub fn count_write(format: Format, bases: &[u16], k: usize) -> usize
     ensures { λ r. ⌜ r ≡ getD (countOrder (formOf (now (bases .entry)) format)) k 0 ⌝ }
 {
     let m = bases.len();
-    if k < m {
+    let own = own(format, bases);
+    if k < own {
         return m + k;
     }
-    if k < m + m {
-        return m + m - 1 - k;
+    if k < m + own {
+        return m + own - 1 - k;
     }
     0
 }
@@ -93,11 +106,12 @@ pub fn count_read(format: Format, bases: &[u16], k: usize) -> usize
     ensures { λ r. ⌜ r ≡ getD (countReadOrder (formOf (now (bases .entry)) format)) k 0 ⌝ }
 {
     let m = bases.len();
+    let own = own(format, bases);
     if k < m {
         return k;
     }
-    if k < m + m {
-        return m + (m + m - 1 - k);
+    if k < m + own {
+        return m + (m + own - 1 - k);
     }
     0
 }
@@ -110,14 +124,14 @@ pub fn record_write(format: Format, bases: &[u16], k: usize) -> usize
     if !small(format, bases) {
         return 0;
     }
-    let m = bases.len();
+    let from = count_steps(format, bases);
     let q = format.q;
     let n = format.n;
     if k < q + n {
-        return m + m + k;
+        return from + k;
     }
     if k < q + n + q {
-        return m + m + q + n + (q + n + q - 1 - k);
+        return from + q + n + (q + n + q - 1 - k);
     }
     0
 }
@@ -130,17 +144,17 @@ pub fn attempt(format: Format, bases: &[u16], k: usize) -> usize
     if !small(format, bases) {
         return 0;
     }
-    let m = bases.len();
+    let from = count_steps(format, bases);
     let q = format.q;
     let n = format.n;
     if k < q {
-        return m + m + q + n + k;
+        return from + q + n + k;
     }
     if k < q + n {
-        return m + m + k;
+        return from + k;
     }
     if k < q + n + q {
-        return m + m + (q + n + q - 1 - k);
+        return from + (q + n + q - 1 - k);
     }
     0
 }
@@ -178,34 +192,40 @@ pub fn version_digits(format: Format, bases: &[u16], k: usize) -> usize
     k - n
 }
 
-// Of w digits that are visited there and back, the one of step k.
-pub fn there_and_back(w: usize, k: usize) -> usize
-    ensures { λ r. ⌜ r ≡ cond (leb w 8) (thereAndBack w k) 0 ⌝ }
+// The digit of step k, where a number's digits are visited out, and then back from the last one.
+pub fn there_and_back(out: usize, back: usize, k: usize) -> usize
+    ensures { λ r. ⌜ r ≡ cond (leb out 8 && leb back 8) (thereAndBack out back k) 0 ⌝ }
 {
-    if 8 < w {
+    if 8 < out {
         return 0;
     }
-    if k < w {
+    if 8 < back {
+        return 0;
+    }
+    if k < out {
         return k;
     }
-    if w + w <= k {
+    if out + back <= k {
         return 0;
     }
-    w + w - 1 - k
+    out + back - 1 - k
 }
 
-// Where a reader keeps the digit of step k of two times w.
-pub fn slot(w: usize, k: usize) -> usize
-    ensures { λ r. ⌜ r ≡ cond (leb w 8) (slotOf w k) 0 ⌝ }
+// Where a reader keeps the digit of step k, of so many there and so many back.
+pub fn slot(there: usize, back: usize, k: usize) -> usize
+    ensures { λ r. ⌜ r ≡ cond (leb there 8 && leb back 8) (slotOf there back k) 0 ⌝ }
 {
-    if 8 < w {
+    if 8 < there {
         return 0;
     }
-    if k < w {
+    if 8 < back {
+        return 0;
+    }
+    if k < there {
         return k;
     }
-    if w + w <= k {
+    if there + back <= k {
         return 8;
     }
-    8 + (w + w - 1 - k)
+    8 + (there + back - 1 - k)
 }

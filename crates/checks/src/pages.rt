@@ -10,7 +10,7 @@ ghost use Rattle.protocol.specs.Allowed.{allowedPage};
 use crate::layout;
 use protocol::Format;
 
-// Are a copy's digits on the page below their bases?
+// Are digits on the page below their bases?
 fn copy_valid(bases: &[u16], page: &[u8], from: usize) -> bool
     requires { ⌜ (goodBases (now bases) ≡ true) × (from + length (now bases) ≤ length (now page)) ⌝ }
     ensures { λ r. ⌜ r ≡ valid (now (bases .entry))
@@ -38,10 +38,11 @@ pub(crate) fn page_valid(format: Format, bases: &[u16], page: &[u8]) -> bool
     ensures { λ r. ⌜ r ≡ allowedPage (formOf (now (bases .entry)) format) (now (page .entry)) ⌝ }
 {
     let m = bases.len();
+    let own = layout::own(format, bases);
     if !copy_valid(bases, page, 0) {
         return false;
     }
-    if !copy_valid(bases, page, m) {
+    if !copy_valid(&bases[..own], page, m) {
         return false;
     }
     if !version_valid(format, bases, page, layout::count_steps(format, bases)) {

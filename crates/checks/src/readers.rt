@@ -1,7 +1,7 @@
 // A reader's state such as the format allows: a part of refusal 3.
 ghost use mathlib.Core.Path.{_≡_};
 ghost use mathlib.Core.Bool.{true, _&&_};
-ghost use Prim.Native.Nat.{_+_, _≤_};
+ghost use Prim.Native.Nat.{ℕ, _+_, _≤_};
 ghost use lib.ListN.{length};
 ghost use Rattle.protocol.specs.Form.{formOf};
 ghost use Rattle.protocol.specs.Memory.{readerOf};
@@ -47,29 +47,29 @@ fn eight_valid(bases: &[u16], digits: &[u8], at: usize, low: usize, high: usize)
     left == 0
 }
 
-// The sixteen digits, of which g are gathered.
-fn digits_valid(bases: &[u16], digits: &[u8], g: usize) -> bool
-    requires { ⌜ (length (now bases) ≤ 8) × (length (now digits) ≡ 16) ×
-        (g ≤ length (now bases) + length (now bases)) ⌝ }
-    ensures { λ r. ⌜ r ≡ gatheredOk (now (bases .entry)) (now (digits .entry)) g ⌝ }
+// The sixteen digits, of which g are gathered; the second copy has so many of its own.
+fn digits_valid(bases: &[u16], own: usize, digits: &[u8], g: usize) -> bool
+    requires { ⌜ (length (now bases) ≤ 8) × (own ≤ length (now bases)) × (length (now digits) ≡ 16) ×
+        (g ≤ length (now bases) + own) ⌝ }
+    ensures { λ r. ⌜ r ≡ gatheredOk (now (bases .entry)) own (now (digits .entry)) g ⌝ }
 {
-    let w = bases.len();
-    if g < w {
+    let m = bases.len();
+    if g < m {
         if !eight_valid(bases, digits, 0, 0, g) {
             return false;
         }
-        return eight_valid(bases, digits, 8, w, w);
+        return eight_valid(bases, digits, 8, own, own);
     }
-    if !eight_valid(bases, digits, 0, 0, w) {
+    if !eight_valid(bases, digits, 0, 0, m) {
         return false;
     }
-    eight_valid(bases, digits, 8, w - (g - w), w)
+    eight_valid(bases, digits, 8, own - (g - m), own)
 }
 
 // Is none of the sixteen gathered? The bits of all tell: so none of them is looked at by itself.
 fn none_gathered(bases: &[u16], digits: &[u8]) -> bool
     requires { ⌜ (length (now bases) ≤ 8) × (length (now digits) ≡ 16) ⌝ }
-    ensures { λ r. ⌜ r ≡ gatheredOk (now (bases .entry)) (now (digits .entry)) 0 ⌝ }
+    ensures { λ r. ⌜ ((own : ℕ) → r ≡ gatheredOk (now (bases .entry)) own (now (digits .entry)) 0) ⌝ }
 {
     let mut bits: u8 = 0;
     let mut p: usize = 0;
@@ -91,7 +91,12 @@ fn attempt_valid(format: Format, bases: &[u16], s: Stage, digits: &[u8]) -> bool
         return false;
     }
     let all = [format.base; 4];
-    digits_valid(&all[..q], digits, layout::version_digits(format, bases, k))
+    digits_valid(
+        &all[..q],
+        q,
+        digits,
+        layout::version_digits(format, bases, k),
+    )
 }
 
 // A count read, or none.
@@ -112,7 +117,7 @@ fn count_valid(format: Format, bases: &[u16], s: Stage, digits: &[u8]) -> bool
     if s.kind != 1 || layout::count_steps(format, bases) <= k {
         return false;
     }
-    digits_valid(bases, digits, k)
+    digits_valid(bases, layout::own(format, bases), digits, k)
 }
 
 // Is the state one that the format allows? No state is, if the numbers of the format are out of range.

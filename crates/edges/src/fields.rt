@@ -58,13 +58,16 @@ fn writer(w: Writer, field: u8, x: u64) -> Writer {
     v
 }
 
-// The version base, the page's length, the bytes of records, the log's room.
+// The version base, the layout, the page's length, the bytes of records, the log's room.
 fn number(l: Lent, field: u8, x: u64) -> Lent {
     let mut v = l;
     let mut f = l.format;
     f.base = (x % 65536) as u16;
+    let mut g = l.format;
+    g.layout = (x % 65536) as u16;
     match field {
         b'B' => v.format = f,
+        b'F' => v.format = g,
         b'L' => v.long = x as usize,
         b'R' => v.records = x as usize,
         b'l' => v.room = x as usize,

@@ -65,15 +65,29 @@ fn places(count: usize) -> usize
     if count < 5 { 0 } else { at_most(count - 5, 9) }
 }
 
+// So many digits c2 has to itself: all, or on a folded page all but the last.
+fn own(places: usize, layout: u16) -> usize
+    ensures { λ r. ⌜ r ≤ places ⌝ }
+{
+    if layout == 0 {
+        return places;
+    }
+    if places == 0 {
+        return 0;
+    }
+    places - 1
+}
+
 fn base(x: u64) -> u16 {
     (x % 65536) as u16
 }
 
 // The count bases, then q, the version base, n and the readers. Everything has the length that these ask, and holds
 // sevens.
-fn of_format(n: Numbers) -> Lent {
+fn of_format(n: Numbers, layout: u16) -> Lent {
     let all = n.all;
     let places = places(n.count);
+    let own = own(places, layout);
     let q = small(all[places]);
     let size = small(all[places + 2]);
     let readers = small(all[places + 3]);
@@ -81,6 +95,7 @@ fn of_format(n: Numbers) -> Lent {
         format: Format {
             q: q,
             base: base(all[places + 1]),
+            layout: layout,
             n: size,
             readers: readers,
         },
@@ -97,7 +112,7 @@ fn of_format(n: Numbers) -> Lent {
         ],
         places: places,
         page: [7; 300],
-        long: places + places + q + size + q,
+        long: places + own + q + size + q,
         writer: fresh::resting(),
         states: [7; 459],
         kept: product(readers, 27),
@@ -113,7 +128,7 @@ fn of_format(n: Numbers) -> Lent {
 }
 
 // Opens the page, with a record of a's.
-fn open(before: Lent, count: Count) -> Lent {
+pub(crate) fn open(before: Lent, count: Count) -> Lent {
     let mut l = before;
     let f = l.format;
     let mut states = l.states;
@@ -147,9 +162,9 @@ fn open(before: Lent, count: Count) -> Lent {
 }
 
 // The page of a format, opened at the count that follows the format's numbers.
-pub(crate) fn opened(n: Numbers) -> Lent {
+pub(crate) fn opened(n: Numbers, layout: u16) -> Lent {
     let all = n.all;
-    open(of_format(n), Count(all[places(n.count) + 4]))
+    open(of_format(n, layout), Count(all[places(n.count) + 4]))
 }
 
 // As many bytes of the records are lent as was asked.

@@ -3,15 +3,12 @@
 // places of base 3, records of three bytes, three readers.
 use crate::table;
 
-fn each(rows: &[u8], x: u64) {
-    table::each(b"10 6 4, q 2, base 3, n 3, readers 3, at 33", rows, x);
-}
-
 // Of the page: p, a byte. Of the writer: K, its kind; C, count; V, version; I, index; S, steps. R: how many bytes of records
 // are lent.
 pub(crate) fn page_and_writer() {
     show::say(b"a strange page or writer:\n");
-    each(
+    table::each(
+        b"10 6 4, q 2, base 3, n 3, readers 3, at 33",
         b"\
         c1 digit 0 at its base:         |q;p 0 10;e\n\
         c1 digit 0 one below:           |q;p 0 9;e\n\
@@ -64,22 +61,24 @@ pub(crate) fn page_and_writer() {
     );
 }
 
-fn of_reader(rows: &[u8], x: u64) {
+fn of_reader(opening: &[u8], rows: &[u8], x: u64) {
     show::say(b"a strange reader");
     show::word(x);
     show::say(b":\n");
-    each(rows, x);
+    table::each(opening, rows, x);
 }
 
-fn first_and_last(rows: &[u8]) {
-    of_reader(rows, 0);
-    of_reader(rows, 2);
+// Of three.
+pub(crate) fn first_and_last(opening: &[u8], rows: &[u8]) {
+    of_reader(opening, rows, 0);
+    of_reader(opening, rows, 2);
 }
 
 // Of a reader: k, its kind; a, attempts allowed; f, finished; s, steps; d, a digit. Digits 0 to 7 are of the copy read
 // first (a, or v2), gathered from the left, 8 to 15 of the other (b, or v1), gathered from the right.
 pub(crate) fn readers() {
     first_and_last(
+        b"10 6 4, q 2, base 3, n 3, readers 3, at 33",
         b"\
         idle, kind 3:                   |q;k 3;e\n\
         idle, attempts allowed:         |q;a 1;e\n\

@@ -1,11 +1,14 @@
 // Rows of a table, carried out and told. A row is a text, which is printed as it stands, and steps. The text ends with
 //     |  what is lent is as the table begins with
 //     +  or as the row before left it
-//     =  or a page opened as the text's numbers say: count bases, q, version base, n, readers, count; the answer is told
+//     =  or a page opened as the text's numbers say: count bases, q, version base, n, readers, count; the answer is told.
+//        The page is folded if the text begins with an f
 // A step is a letter and numbers, among which x is the reader that is tried, and ends with a semicolon or with the line:
 //     r  these commands are run; all that the run answers is told, the log and the buffers
 //     q  they are run, and how many were carried out is told
 //     e  they are run, and the ending is told
+//     o  the page is opened at this count, and the answer is told
+//     t  the page is told
 // Any other letter sets a field (fields.rt), that reader's if it is a reader's, to the last number; if it has several
 // places, at the first number.
 ghost use Prim.Native.Nat.{_≤_};
@@ -15,6 +18,7 @@ use crate::lent;
 use crate::lent::Lent;
 use crate::numbers;
 use crate::numbers::Numbers;
+use radix::Count;
 
 fn tell_ending(l: Lent) {
     show::bytes(&[l.ending]);
@@ -32,6 +36,13 @@ fn tell_all(l: Lent) {
     show::bytes(&log[..room]);
     show::say(b", buffers");
     show::bytes(&buffers[..size]);
+}
+
+fn tell_page(l: Lent) {
+    let page = l.page;
+    let long = lent::within(l.long, &page);
+    show::say(b", page");
+    show::bytes(&page[..long]);
 }
 
 fn tell(letter: u8, l: Lent) {
@@ -59,6 +70,13 @@ fn set(l: Lent, letter: u8, n: Numbers, x: u64) -> Lent {
     fields::set(l, letter, x as usize, all[0] as usize, all[count - 1])
 }
 
+fn open_again(l: Lent, n: Numbers) -> Lent {
+    let all = n.all;
+    let v = lent::open(l, Count(all[0]));
+    tell_ending(v);
+    v
+}
+
 fn step(text: &[u8], l: Lent, x: u64) -> Lent {
     if text.len() == 0 {
         return l;
@@ -67,12 +85,24 @@ fn step(text: &[u8], l: Lent, x: u64) -> Lent {
     let letter = text[0];
     match letter {
         b'r' | b'q' | b'e' => run(l, letter, n),
+        b'o' => open_again(l, n),
+        b't' => {
+            tell_page(l);
+            l
+        }
         _ => set(l, letter, n, x),
     }
 }
 
+fn layout(text: &[u8]) -> u16 {
+    if text.len() == 0 {
+        return 0;
+    }
+    if text[0] == b'f' { 1 } else { 0 }
+}
+
 fn opened(text: &[u8]) -> Lent {
-    lent::opened(numbers::read(text, 0))
+    lent::opened(numbers::read(text, 0), layout(text))
 }
 
 fn open(text: &[u8]) -> Lent {

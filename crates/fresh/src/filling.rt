@@ -42,9 +42,11 @@ pub(crate) fn fill_page(format: Format, bases: &[u16], page: &mut [u8], c: Count
 {
     let m = bases.len();
     let q = format.q;
+    let both = m + m;
     let end = layout::count_steps(format, bases);
     radix::counts::write(bases, Count(c.0), &mut page[..m]);
-    radix::counts::write(bases, Count(c.0), &mut page[m..end]);
+    // Where the copies share a digit, v1 covers the last one of these.
+    radix::counts::write(bases, Count(c.0), &mut page[m..both]);
     put_zeros(page, end, q);
     codec::put_bytes(page, layout::content_start(format, bases), record);
     put_zeros(page, layout::second_version(format, bases), q);

@@ -42,7 +42,7 @@ onward s k = stageAt (s .kind) (s .allowed) (s .finished) k
 
 -- the digit d of step k of an attempt: a byte of the record is put into the buffer, any other with the digits
 abbrev pub digitsWith : Form → (k d : ℕ) → List ℕ → List ℕ
-digitsWith F k d l = cond (inContent F k) l (set l (slotOf (F .q) (versionDigits F k)) d)
+digitsWith F k d l = cond (inContent F k) l (set l (slotOf (F .q) (F .q) (versionDigits F k)) d)
 
 abbrev pub bufferWith : Form → (k d : ℕ) → List ℕ → List ℕ
 bufferWith F k d b = cond (inContent F k) (set b (k - F .q) d) b

@@ -1,13 +1,14 @@
 -- What a held reader is, by its kind: what the functions of one kind of read ask.
 use mathlib.Core.Path.{_≡_}
-use mathlib.Core.List.{List, _++_, reverse}
+use mathlib.Core.List.{List}
 use mathlib.Core.Bool.{true}
 use Prim.Native.Nat.{ℕ, _-_, _≤_, _<_}
 use lib.Dec.{ltb}
 use lib.ListN.{length, drop}
 use Rattle.radix.specs.Digits.{valid}
 use Rattle.protocol.specs.Lists.{every}
-use Rattle.protocol.specs.Form.{Form, m, countSteps, recordSteps, goodForm}
+use Rattle.protocol.specs.Form.{Form, m, own, countSteps, recordSteps, goodForm}
+use Rattle.protocol.specs.Layout.{countBases}
 use Rattle.protocol.specs.State.{ofCount, ofRecord}
 use Rattle.protocol.specs.Memory.{storedDigits}
 use Rattle.protocol.specs.Load.{loadReading}
@@ -18,14 +19,15 @@ use Rattle.protocol.specs.declared.Reader.{Reader}
 pub record AtCount (F : Form) (x : Reader) : Type 0 where
   pub form : goodForm F ≡ true
   pub places : (1 ≤ m F) × (m F ≤ 8)
+  pub shared : F .shared ≤ 1
   pub ds : List ℕ
   pub is : loadReading F x ≡ ofCount ds
   pub numbers : (x .stage .kind ≡ 1) × (x .stage .allowed ≡ 0) × (x .stage .finished ≡ 0)
   pub steps : x .stage .steps ≡ length ds
-  pub digits : x .digits ≡ storedDigits (m F) (length ds - m F) ds
+  pub digits : x .digits ≡ storedDigits (own F) (length ds - m F) ds
   pub long : length (x .digits) ≡ 16
   pub few : length ds < countSteps F
-  pub low : valid (drop (countSteps F - length ds) (F .bases ++ reverse (F .bases))) ds ≡ true
+  pub low : valid (drop (countSteps F - length ds) (countBases F)) ds ≡ true
 
 -- an attempt of a record read
 pub record AtRecord (F : Form) (x : Reader) : Type 0 where

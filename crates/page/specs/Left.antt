@@ -7,8 +7,8 @@ use lib.Dec.{eqb, ltb}
 use lib.ListN.{length, set, take, drop, replicate}
 use Rattle.radix.specs.Digits.{valid}
 use Rattle.radix.specs.Copies.{compare}
-use Rattle.radix.specs.Answers.{goodBases}
-use Rattle.protocol.specs.Form.{Form, versionBases, goodForm}
+use Rattle.radix.specs.Answers.{goodBases, whole}
+use Rattle.protocol.specs.Form.{Form, m, own, versionBases, goodForm}
 use Rattle.protocol.specs.State.{Reading, idle, ofRecord, busyReading}
 use Rattle.protocol.specs.Step.{Gathered, gathered, copyA, copyB, endCount, endAttempt, gather}
 use Rattle.protocol.specs.Outcome.{entry}
@@ -70,35 +70,37 @@ cancelled F x b =
     cond (busyReading (loadReading F x)) (left (Done Nothing) (storedReading F idle) b)
     (left (Refused NothingPending) x b)
 
--- THE LAST STEP of a read, where its digit is put at 8 already
+-- THE LAST STEP of a read, where its digit is put at its place already
 
 -- the reader as the step found it
-abbrev pub before : Stage → List ℕ → Reader
-before s digits = readerOf s (set digits 8 0)
+abbrev pub before : Stage → (last : ℕ) → List ℕ → Reader
+before s last digits = readerOf s (set digits last 0)
 
 -- the reader is idle
 abbrev pub finished : Form → (room : ℕ) → Outcome → Reader → List ℕ → Left
 finished F room o x b = onGathered F room x b (gathered idle b o)
 
--- the two copies of as many digits as there are bases
-abbrev pub copyOne : List ℕ → List ℕ → List ℕ
-copyOne bs digits = take (length bs) digits
+-- the two copies; of the second its own digits are there
+abbrev pub copyOne : Form → List ℕ → List ℕ
+copyOne F digits = take (m F) digits
 
-abbrev pub copyTwo : List ℕ → List ℕ → List ℕ
-copyTwo bs digits = take (length bs) (drop 8 digits)
+abbrev pub ownTwo : Form → List ℕ → List ℕ
+ownTwo F digits = take (own F) (drop 8 digits)
 
-pub record Whole (bs digits : List ℕ) : Type 0 where
-  pub good : goodBases bs ≡ true
-  pub places : length bs ≤ 8
+abbrev pub copyTwo : Form → List ℕ → List ℕ
+copyTwo F digits = whole (copyOne F digits) (ownTwo F digits)
+
+pub record Whole (F : Form) (digits : List ℕ) : Type 0 where
+  pub good : goodBases (F .bases) ≡ true
+  pub places : m F ≤ 8
   pub long : length digits ≡ 16
-  pub one : valid bs (copyOne bs digits) ≡ true
-  pub two : valid bs (copyTwo bs digits) ≡ true
+  pub one : valid (F .bases) (copyOne F digits) ≡ true
+  pub two : valid (F .bases) (copyTwo F digits) ≡ true
 
-abbrev pub countEnded : Form → (who room : ℕ) → Stage → List ℕ → List ℕ → Left
-countEnded F who room s digits b =
-    onGathered F room (before s digits) b
-    (endCount F who b (copyOne (F .bases) digits) (copyTwo (F .bases) digits)
-    (compare (copyOne (F .bases) digits) (copyTwo (F .bases) digits)))
+abbrev pub countEnded : Form → (who room : ℕ) → Stage → (last : ℕ) → List ℕ → List ℕ → Left
+countEnded F who room s last digits b =
+    onGathered F room (before s last digits) b
+    (endCount F who b (copyOne F digits) (copyTwo F digits) (compare (copyOne F digits) (copyTwo F digits)))
 
 -- the same of an attempt
 pub record WholeAttempt (F : Form) (s : Stage) (digits b : List ℕ) : Type 0 where
@@ -119,7 +121,7 @@ pub record Copies (w : ℕ) (ds digits : List ℕ) : Type 0 where
 abbrev pub AttemptEnds : Form → (who room : ℕ) → Stage → (digits b : List ℕ) → Left → Type 0
 AttemptEnds F who room s digits b y =
     (ds : List ℕ) → Copies (F .q) ds digits →
-    y ≡ onGathered F room (before s digits) b (endAttempt F who (s .allowed) (s .finished) b ds)
+    y ≡ onGathered F room (before s 8 digits) b (endAttempt F who (s .allowed) (s .finished) b ds)
 
 -- the next attempt begins; the reader gives up, if the log has room, and its buffer becomes zeros
 abbrev pub restarted : Stage → (used : ℕ) → List ℕ → Left

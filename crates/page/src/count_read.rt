@@ -1,15 +1,16 @@
-// A step of a count read: c1 left to right, then c2 right to left, and the count or the two ends that they allow.
+// A step of a count read: c1 left to right, then c2's own digits right to left, and the count or the two ends that they
+// allow.
 ghost use mathlib.Core.Path.{_≡_};
 ghost use Prim.Native.Nat.{_+_, _≤_, _<_};
 ghost use lib.ListN.{length, set};
 ghost use Rattle.radix.specs.Answers.{endsOf};
-ghost use Rattle.protocol.specs.Form.{formOf, countSteps};
+ghost use Rattle.protocol.specs.Form.{formOf, own, countSteps};
 ghost use Rattle.protocol.specs.Memory.{readerOf};
 ghost use Rattle.protocol.specs.Load.{loadReading};
 ghost use Rattle.checks.specs.Layout.{slotOf};
 ghost use Rattle.page.specs.Held.{Fits};
 ghost use Rattle.page.specs.At.{AtCount};
-ghost use Rattle.page.specs.Left.{Leaves, stepped, Whole, copyOne, copyTwo, countEnded};
+ghost use Rattle.page.specs.Left.{Leaves, stepped, Whole, copyOne, ownTwo, countEnded};
 use crate::finishing;
 use crate::finishing::Taken;
 use checks::layout;
@@ -19,14 +20,14 @@ use protocol::Refusal;
 use protocol::Stage;
 use radix::Ends;
 
-// What the two copies say.
-fn ends_of(bases: &[u16], digits: &[u8]) -> Ends
+// What the two copies say: of the second only its own digits are there.
+fn ends_of(format: Format, bases: &[u16], digits: &[u8]) -> Ends
     requires { ⌜ (length (now bases) ≤ 8) × (length (now digits) ≡ 16) ⌝ }
-    ensures { λ r. ⌜ r ≡ endsOf (now (bases .entry)) (copyOne (now (bases .entry)) (now (digits .entry)))
-        (copyTwo (now (bases .entry)) (now (digits .entry))) ⌝ }
+    ensures { λ r. ⌜ r ≡ endsOf (now (bases .entry)) (copyOne (formOf (now (bases .entry)) format) (now (digits .entry)))
+        (ownTwo (formOf (now (bases .entry)) format) (now (digits .entry))) ⌝ }
 {
     let m = bases.len();
-    let end = 8 + m;
+    let end = 8 + layout::own(format, bases);
     radix::copies::ends(bases, &digits[..m], &digits[8..end])
 }
 
@@ -37,20 +38,21 @@ fn end_count(
     who: u8,
     stage: Stage,
     digits: &mut [u8],
+    last: usize,
     room: usize,
 ) -> Taken
-    requires { ⌜ Whole (now bases) (now digits) ⌝ }
+    requires { ⌜ Whole (formOf (now bases) format) (now digits) × (last < 16) ⌝ }
     ensures { λ r. ⌜ Leaves r (now (digits .exit))
-        (countEnded (formOf (now (bases .entry)) format) who room stage (now (digits .entry))) ⌝ }
+        (countEnded (formOf (now (bases .entry)) format) who room stage last (now (digits .entry))) ⌝ }
 {
-    let e = ends_of(bases, digits);
+    let e = ends_of(format, bases, digits);
     match e {
         Ends::Same(c) => {
             let o = Outcome::Shown {
                 reader: who,
                 count: c,
             };
-            finishing::finish(stage, digits, o, room)
+            finishing::finish(stage, digits, last, o, room)
         }
         Ends::Between { low, high } => {
             let o = Outcome::Between {
@@ -58,24 +60,25 @@ fn end_count(
                 low: low,
                 high: high,
             };
-            finishing::finish(stage, digits, o, room)
+            finishing::finish(stage, digits, last, o, room)
         }
         Ends::Crossed | Ends::Refused(_) => {
-            digits[8] = 0;
+            digits[last] = 0;
             finishing::refused(Refusal::CopiesCrossed, stage)
         }
     }
 }
 
-// The digit of step k in its place.
-pub(crate) fn gather(bases: &[u16], k: usize, digits: &mut [u8], digit: u8)
-    requires { ⌜ (length (now bases) ≤ 8) × (k < length (now bases) + length (now bases))
+// The digit of step k in its place, which is told.
+pub(crate) fn gather(format: Format, bases: &[u16], k: usize, digits: &mut [u8], digit: u8) -> usize
+    requires { ⌜ (length (now bases) ≤ 8) × (k < countSteps (formOf (now bases) format))
         × (length (now digits) ≡ 16) ⌝ }
-    ensures { λ r. ⌜ now (digits .exit)
-        ≡ set (now (digits .entry)) (slotOf (length (now (bases .entry))) k) digit ⌝ }
+    ensures { λ r. ⌜ (r ≡ slotOf (length (now (bases .entry))) (own (formOf (now (bases .entry)) format)) k)
+        × (now (digits .exit) ≡ set (now (digits .entry)) r digit) ⌝ }
 {
-    let p = layout::slot(bases.len(), k);
+    let p = layout::slot(bases.len(), layout::own(format, bases), k);
     digits[p] = digit;
+    p
 }
 
 // The last step.
@@ -95,6 +98,6 @@ pub(crate) fn last_step(
     ensures { λ r. ⌜ Leaves r (now (digits .exit))
         (stepped (formOf (now (bases .entry)) format) who digit room (readerOf stage (now (digits .entry)))) ⌝ }
 {
-    gather(bases, stage.steps, digits, digit);
-    end_count(format, bases, who, stage, digits, room)
+    let last = gather(format, bases, stage.steps, digits, digit);
+    end_count(format, bases, who, stage, digits, last, room)
 }

@@ -1,5 +1,7 @@
-// What a command of a reader answers, and the end of a read: its last digit is put at 8 already, and a refusal takes it back.
+// What a command of a reader answers, and the end of a read: its last digit is put in its place already, and a refusal
+// takes it back.
 ghost use mathlib.Core.Path.{_≡_};
+ghost use Prim.Native.Nat.{_<_};
 ghost use lib.ListN.{length};
 ghost use Rattle.protocol.specs.Form.{Form};
 ghost use Rattle.protocol.specs.Memory.{stageAt};
@@ -67,13 +69,13 @@ fn over(o: Outcome) -> Taken
 }
 
 // The read ends with an outcome, if the log has room for its entry.
-pub(crate) fn finish(stage: Stage, digits: &mut [u8], o: Outcome, room: usize) -> Taken
-    requires { ⌜ length (now digits) ≡ 16 ⌝ }
+pub(crate) fn finish(stage: Stage, digits: &mut [u8], last: usize, o: Outcome, room: usize) -> Taken
+    requires { ⌜ (length (now digits) ≡ 16) × (last < 16) ⌝ }
     ensures { λ r. ⌜ ((F : Form) → Leaves r (now (digits .exit))
-        (finished F room o (before stage (now (digits .entry))))) ⌝ }
+        (finished F room o (before stage last (now (digits .entry))))) ⌝ }
 {
     if room < codec::size(o) {
-        digits[8] = 0;
+        digits[last] = 0;
         return refused(Refusal::LogFull, stage);
     }
     fresh::zero(digits);

@@ -124,7 +124,7 @@ pub(crate) fn advance(
     let p = position(format, bases, stage);
     let d = page[p];
     if stage.kind == 1 {
-        count_read::gather(bases, k, digits, d);
+        count_read::gather(format, bases, k, digits, d);
         return k + 1;
     }
     let n = format.n;

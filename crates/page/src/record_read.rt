@@ -83,13 +83,13 @@ fn end_attempt(
             attempts: used,
             version: v1,
         };
-        return finishing::finish(stage, digits, o, room);
+        return finishing::finish(stage, digits, 8, o, room);
     }
     if used < stage.allowed {
         return again(stage, digits, used);
     }
     let o = gave_up(who, used, buffer, room);
-    finishing::finish(stage, digits, o, room)
+    finishing::finish(stage, digits, 8, o, room)
 }
 
 // The digit of step k in its place: a byte of the record in the buffer, a digit of a version with the digits.
@@ -114,7 +114,8 @@ pub(crate) fn gather(
         buffer[at] = digit;
         return;
     }
-    let p = layout::slot(format.q, layout::version_digits(format, bases, k));
+    let q = format.q;
+    let p = layout::slot(q, q, layout::version_digits(format, bases, k));
     digits[p] = digit;
 }
 

@@ -134,8 +134,9 @@ pub(crate) fn begin_count(
     };
     let m = bases.len();
     let end = layout::count_steps(format, bases);
-    // The second copy can be read.
-    let last = match radix::counts::read(bases, &page[m..end]) {
+    let own = layout::own(format, bases);
+    // The second copy can be read: its own digits, then those that it shares with the first.
+    let last = match radix::counts::read_parts(bases, &page[m..end], &page[own..m]) {
         CountRead::Is(x) => x.0,
         CountRead::Refused(_) => 0,
     };

@@ -27,7 +27,7 @@ pub(crate) struct Store {
     pub(crate) digit: u8,
 }
 
-// c2 left to right, c1 right to left.
+// c2's own digits left to right, c1 right to left.
 fn count_store(format: Format, bases: &[u16], ink: u64, w: Writer) -> Store
     requires { ⌜ (goodForm (formOf (now bases) format) ≡ true)
         × (w .kind ≡ 1)
@@ -36,7 +36,7 @@ fn count_store(format: Format, bases: &[u16], ink: u64, w: Writer) -> Store
     ensures { λ r. ⌜ r ≡ countStore (formOf (now (bases .entry)) format) (w .count) (w .steps) ⌝ }
 {
     let k = w.steps;
-    let j = layout::there_and_back(bases.len(), k);
+    let j = layout::there_and_back(layout::own(format, bases), bases.len(), k);
     Store {
         position: layout::count_write(format, bases, k),
         digit: pen::digit(ink, j),
@@ -55,7 +55,8 @@ fn version_store(format: Format, bases: &[u16], records: &[u8], ink: u64, w: Wri
         (w .index) (w .steps) ⌝ }
 {
     let k = w.steps;
-    let j = layout::there_and_back(format.q, layout::version_digits(format, bases, k));
+    let q = format.q;
+    let j = layout::there_and_back(q, q, layout::version_digits(format, bases, k));
     Store {
         position: layout::record_write(format, bases, k),
         digit: pen::digit(ink, j),

@@ -8,3 +8,4 @@ pub mod Fits
 pub mod Differing
 pub mod Boundaries
 pub mod Near
+pub mod Folded

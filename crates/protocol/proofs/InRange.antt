@@ -17,6 +17,7 @@ use Rattle.protocol.proofs.Lists.Cases.{both, together}
 pub record InRange (F : Form) : Type 0 where
   pub places : (1 ≤ m F) × (m F ≤ 8)
   pub bases : All (λ b. (2 ≤ b) × (b ≤ 256)) (F .bases)
+  pub shared : F .shared ≤ 1
   pub versions : (1 ≤ F .q) × (F .q ≤ 4)
   pub base : (2 ≤ F .base) × (F .base ≤ 256)
   pub bytes : (1 ≤ F .n) × (F .n ≤ 256)
@@ -55,7 +56,8 @@ in-range F good =
     let (b, bytes) = both _ (between 1 256 (F .n)) a in
     let (c, base) = both _ (goodBase (F .base)) b in
     let (d, versions) = both _ (between 1 4 (F .q)) c in
-    let (some, bases) = both (leb 1 (m F)) (goodBases (F .bases)) d in
+    let (e, layout) = both _ (leb (F .shared) 1) d in
+    let (some, bases) = both (leb 1 (m F)) (goodBases (F .bases)) e in
     let (few, each) = both (leb (m F) 8) (all goodBase (F .bases)) bases in
     let in-versions = between-true 1 4 (F .q) versions in
     let good-versions = good-replicate (F .q) (F .base) base in
@@ -64,6 +66,7 @@ in-range F good =
     record {
       places = (leb-true 1 (m F) some, leb-true (m F) 8 few);
       bases = good-all (F .bases) each;
+      shared = leb-true (F .shared) 1 layout;
       versions = in-versions;
       base = good-base (F .base) base;
       bytes = between-true 1 256 (F .n) bytes;

@@ -1,5 +1,5 @@
 -- The states that the format allows. What document 01 lists under refusal 3 is what this and Memory rule out.
-use mathlib.Core.List.{List, _++_, reverse}
+use mathlib.Core.List.{List}
 use mathlib.Core.Bool.{Bool, true, _&&_}
 use Prim.Native.Nat.{ℕ, _+_, _-_, min}
 use lib.Dec.{eqb, ltb}
@@ -7,7 +7,7 @@ use lib.ListN.{length, drop}
 use Rattle.radix.specs.Digits.{product, valid}
 use Rattle.protocol.specs.Lists.{every}
 use Rattle.protocol.specs.Form.{Form, versionBases, countSteps, recordSteps}
-use Rattle.protocol.specs.Layout.{c1, c2, v1, v2, look}
+use Rattle.protocol.specs.Layout.{c1, c2, v1, v2, countBases, look}
 use Rattle.protocol.specs.Step.{inRecords}
 use Rattle.protocol.specs.State.{
   Writing,
@@ -40,7 +40,7 @@ versionDigits F s = min s (F .q) + (s - (F .q + F .n))
 unfoldable pub allowedReading : Form → Reading → Bool
 allowedReading F idle = true
 allowedReading F (ofCount ds) =
-    ltb (length ds) (countSteps F) && valid (drop (countSteps F - length ds) (F .bases ++ reverse (F .bases))) ds
+    ltb (length ds) (countSteps F) && valid (drop (countSteps F - length ds) (countBases F)) ds
 allowedReading F (ofRecord a f s ds) =
     ltb f a && ltb s (recordSteps F) && eqb (length ds) (versionDigits F s) && every (λ d. ltb d (F .base)) ds
 

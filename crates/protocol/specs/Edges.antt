@@ -19,9 +19,9 @@ use Rattle.protocol.specs.declared.Outcome.{Outcome}
 use Rattle.protocol.specs.declared.Outcome.the-variants.{Nothing, Shown, Between}
 use Rattle.protocol.specs.declared.Refusal.the-variants.{CountTooLarge, VersionsExhausted, CopiesCrossed}
 
--- version base 10 with one place, records of one byte, one reader
+-- a plain page, version base 10 with one place, records of one byte, one reader
 abbrev pub withBases : List ℕ → Form
-withBases bs = record { bases = bs; q = 1; base = 10; n = 1; readers = 1 }
+withBases bs = record { bases = bs; shared = 0; q = 1; base = 10; n = 1; readers = 1 }
 
 abbrev pub decimal : Form
 decimal = withBases (10 ∷ 10 ∷ 10 ∷ [])

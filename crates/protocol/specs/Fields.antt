@@ -6,7 +6,7 @@ use lib.ListN.{length, take, drop}
 use lib.Seq.{slice}
 use Rattle.radix.specs.Digits.{product, Valid}
 use Rattle.protocol.specs.Lists.{All}
-use Rattle.protocol.specs.Form.{Form, versionBases, countSteps, recordSteps}
+use Rattle.protocol.specs.Form.{Form, own, versionBases, countSteps, recordSteps}
 use Rattle.protocol.specs.Layout.{c1, c2, v1, v2, look}
 use Rattle.protocol.specs.Allowed.{versionDigits}
 use Rattle.protocol.specs.Memory.{Memory}
@@ -39,20 +39,20 @@ pub record EightOk (bases eight : List ℕ) (low high : ℕ) : Type 0 where
   pub gathered : Valid (slice low high bases) (slice low high eight)
   pub after : Zeros (drop high eight)
 
--- of sixteen digits g are gathered: first the first copy from the left, then the second from the right
-pub record SixteenOk (bases digits : List ℕ) (g : ℕ) : Type 0 where
+-- of sixteen digits g are gathered: first the first copy from the left, then the w own digits of the second from the right
+pub record SixteenOk (bases : List ℕ) (w : ℕ) (digits : List ℕ) (g : ℕ) : Type 0 where
   pub first : EightOk bases (take 8 digits) 0 (min g (length bases))
-  pub second : EightOk bases (drop 8 digits) (length bases - (g - length bases)) (length bases)
+  pub second : EightOk bases (drop 8 digits) (w - (g - length bases)) w
 
 -- idle, a count read, a record read; no other kind passes
 pub data ReaderOk (F : Form) (x : Reader) : Type 0 where
   kind0 : x .stage .kind ≡ 0 → x .stage .allowed ≡ 0 → x .stage .finished ≡ 0 → x .stage .steps ≡ 0 → Zeros (x .digits) → ReaderOk F x
   kind1 :
       x .stage .kind ≡ 1 → x .stage .allowed ≡ 0 → x .stage .finished ≡ 0 → x .stage .steps < countSteps F →
-      SixteenOk (F .bases) (x .digits) (x .stage .steps) → ReaderOk F x
+      SixteenOk (F .bases) (own F) (x .digits) (x .stage .steps) → ReaderOk F x
   kind2 :
       x .stage .kind ≡ 2 → x .stage .finished < x .stage .allowed → x .stage .steps < recordSteps F →
-      SixteenOk (versionBases F) (x .digits) (versionDigits F (x .stage .steps)) → ReaderOk F x
+      SixteenOk (versionBases F) (F .q) (x .digits) (versionDigits F (x .stage .steps)) → ReaderOk F x
 
 pub record FieldsOk (F : Form) (S : List ℕ) (L : Memory) : Type 0 where
   pub page : PageOk F (L .page)

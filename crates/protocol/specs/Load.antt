@@ -7,7 +7,7 @@ use Prim.Native.Nat.{ℕ, zero, suc, _+_, _-_, min}
 use lib.Dec.{eqb}
 use lib.ListN.{take, drop}
 use Rattle.protocol.specs.Lists.{every}
-use Rattle.protocol.specs.Form.{Form, m}
+use Rattle.protocol.specs.Form.{Form, m, own}
 use Rattle.protocol.specs.State.{Writing, resting, aCount, aRecord}
 use Rattle.protocol.specs.State.{Reading, idle, ofCount, ofRecord, State, stateOf}
 use Rattle.protocol.specs.Allowed.{allowed, versionDigits}
@@ -20,14 +20,14 @@ loadWriting x =
     cond (eqb (x .kind) 1) (aCount (x .count) (x .steps))
     (cond (eqb (x .kind) 2) (aRecord (x .version) (x .index) (x .steps)) resting)
 
--- the digits gathered, latest first: j of the first copy, k of the second
+-- the digits gathered, latest first: j of the first copy, k of the w own digits of the second
 abbrev pub loadDigits : ℕ → ℕ → ℕ → List ℕ → List ℕ
 loadDigits w j k l = take k (drop (8 + (w - k)) l) ++ reverse (take j l)
 
 unfoldable pub loadReading : Form → Reader → Reading
 loadReading F x =
     let g = versionDigits F (x .stage .steps) in
-    cond (eqb (x .stage .kind) 1) (ofCount (loadDigits (m F) (min (x .stage .steps) (m F)) (x .stage .steps - m F) (x .digits)))
+    cond (eqb (x .stage .kind) 1) (ofCount (loadDigits (own F) (min (x .stage .steps) (m F)) (x .stage .steps - m F) (x .digits)))
     (cond (eqb (x .stage .kind) 2)
     (ofRecord (x .stage .allowed) (x .stage .finished) (x .stage .steps) (loadDigits (F .q) (min g (F .q)) (g - F .q) (x .digits)))
     idle)

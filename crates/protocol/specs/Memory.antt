@@ -5,7 +5,7 @@ use Prim.Native.Nat.{ℕ, _+_, _*_, _-_}
 use lib.Dec.{eqb}
 use lib.ListN.{length, take, drop, replicate}
 use Rattle.protocol.specs.Lists.{concat}
-use Rattle.protocol.specs.Form.{Form, m, countSteps, recordSteps}
+use Rattle.protocol.specs.Form.{Form, m, own, countSteps, recordSteps}
 use Rattle.protocol.specs.State.{
   Writing,
   resting,
@@ -39,8 +39,8 @@ storedWriting (aRecord v i k) = record { kind = 2; count = record { 0 = 0 }; ver
 abbrev pub eight : List ℕ → List ℕ
 eight l = l ++ replicate (8 - length l) 0
 
--- the first copy (or v2), of which digits are gathered from the left, and the second (or v1), from the right;
--- w digits each, k of the second are there
+-- the first copy (or v2), of which digits are gathered from the left, and the own digits of the second (or v1), from the
+-- right: w of them, of which k are there
 abbrev pub storedDigits : ℕ → ℕ → List ℕ → List ℕ
 storedDigits w k ds = eight (reverse (drop k ds)) ++ eight (replicate (w - k) 0 ++ take k ds)
 
@@ -52,7 +52,7 @@ readerOf s ds = record { stage = s; digits = ds }
 
 unfoldable pub storedReading : Form → Reading → Reader
 storedReading F idle = readerOf (stageAt 0 0 0 0) (replicate 16 0)
-storedReading F (ofCount ds) = readerOf (stageAt 1 0 0 (length ds)) (storedDigits (m F) (length ds - m F) ds)
+storedReading F (ofCount ds) = readerOf (stageAt 1 0 0 (length ds)) (storedDigits (own F) (length ds - m F) ds)
 storedReading F (ofRecord a f s ds) = readerOf (stageAt 2 a f s) (storedDigits (F .q) (length ds - F .q) ds)
 
 unfoldable pub stored : Form → State → Memory

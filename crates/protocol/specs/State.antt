@@ -2,11 +2,11 @@
 use mathlib.Core.List.{List, [], _++_}
 use mathlib.Core.Bool.{Bool, true, false}
 use Prim.Native.Nat.{ℕ}
-use lib.ListN.{getD, set, replicate}
+use lib.ListN.{getD, set, take, replicate}
 use Rattle.radix.specs.declared.Count.{Count}
 use Rattle.radix.specs.declared.Version.{Version}
 use Rattle.radix.specs.Digits.{digits}
-use Rattle.protocol.specs.Form.{Form, versionBases}
+use Rattle.protocol.specs.Form.{Form, own, versionBases}
 
 -- the writer, document 01's hand: its write, and how many steps of it are taken
 pub data Writing : Type 0 where
@@ -29,12 +29,13 @@ pub record State : Type 0 where
 abbrev pub stateOf : List ℕ → Writing → List Reading → List (List ℕ) → State
 stateOf p w rs bs = record { page = p; writing = w; readings = rs; buffers = bs }
 
--- what an opening leaves: the first count twice, version 0 twice, the first record; all idle, buffers of zeros
+-- what an opening leaves: the first count in both copies, version 0 twice, the first record; all idle, buffers of zeros
 unfoldable pub opened : Form → Count → List ℕ → State
 opened F c r =
     let d = digits (F .bases) (c .0) in
     let v = digits (versionBases F) 0 in
-    stateOf (d ++ d ++ v ++ r ++ v) resting (replicate (F .readers) idle) (replicate (F .readers) (replicate (F .n) 0))
+    stateOf (d ++ take (own F) d ++ v ++ r ++ v) resting (replicate (F .readers) idle)
+    (replicate (F .readers) (replicate (F .n) 0))
 
 abbrev pub readingOf : State → ℕ → Reading
 readingOf σ r = getD (σ .readings) r idle

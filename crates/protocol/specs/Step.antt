@@ -8,7 +8,7 @@ use Rattle.radix.specs.declared.Comparison.{Comparison}
 use Rattle.radix.specs.declared.Comparison.the-variants.{Equal, Parted, Crossed}
 use Rattle.radix.specs.Digits.{product, value}
 use Rattle.radix.specs.Copies.{compare, lowEnd, highEnd}
-use Rattle.protocol.specs.Form.{Form, m, versionBases, countSteps, recordSteps}
+use Rattle.protocol.specs.Form.{Form, m, own, versionBases, countSteps, recordSteps}
 use Rattle.protocol.specs.Layout.{
   c2,
   v1,
@@ -129,7 +129,7 @@ endAttempt F r allowed finished buffer ds =
 unfoldable pub gather : Form → (reader digit : ℕ) → Reading → List ℕ → Gathered
 gather F r d idle buffer = refused NothingPending
 gather F r d (ofCount ds) buffer =
-    let a = copyA (m F) (d ∷ ds) in
+    let a = copyA (own F) (d ∷ ds) in
     let b = copyB (m F) (d ∷ ds) in
     cond (ltb (suc (length ds)) (countSteps F)) (gathered (ofCount (d ∷ ds)) buffer Nothing)
     (endCount F r buffer a b (compare a b))

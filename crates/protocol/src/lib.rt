@@ -5,11 +5,12 @@ use radix::Count;
 use radix::Version;
 
 // The numbers of a page, document 01's form, but for its count bases, which are lent as a slice: m is how many
-// they are.
+// they are. Layout 0: a plain page; 1: a folded one, on which the last digits of both copies are one digit.
 #[repr(C)]
 pub struct Format {
     pub q: usize,
     pub base: u16,
+    pub layout: u16,
     pub n: usize,
     pub readers: usize,
 }

@@ -5,3 +5,4 @@ pub mod Products
 pub mod Turns
 pub mod Shares
 pub mod Sizes
+pub mod Pieces

@@ -1,9 +1,9 @@
 -- What the functions answer. The checks stand in document 01's order, and a refusal leaves what was lent as it was.
-use mathlib.Core.List.{List, [], _∷_}
+use mathlib.Core.List.{List, [], _∷_, _++_}
 use mathlib.Core.Bool.{Bool, true, _&&_, cond}
 use Prim.Native.Nat.{ℕ}
 use lib.Dec.{ltb, leb, eqb}
-use lib.ListN.{length, getD, replicate}
+use lib.ListN.{length, getD, drop, replicate}
 use Rattle.radix.specs.Digits.{product, value, digits, valid}
 use Rattle.radix.specs.Copies.{compare, lowEnd, highEnd}
 use Rattle.radix.specs.declared.Version.{Version}
@@ -104,10 +104,15 @@ endsAt bs a b Equal = Same (record { 0 = value bs a })
 endsAt bs a b (Parted p) = Between (lowEnd bs p a) (highEnd bs p b)
 endsAt bs a b Crossed = Ends.Crossed
 
-abbrev pub endsOf : List ℕ → List ℕ → List ℕ → Ends
-endsOf bs a b =
+-- the second copy, told by its own digits: the others are the last ones of the first copy
+abbrev pub whole : (a own : List ℕ) → List ℕ
+whole a own = own ++ drop (length own) a
+
+abbrev pub endsOf : (bases a own : List ℕ) → Ends
+endsOf bs a own =
+    let b = whole a own in
     cond (goodBases bs)
-    (cond (eqb (length a) (length bs) && eqb (length b) (length bs))
+    (cond (eqb (length a) (length bs) && leb (length own) (length bs))
     (cond (valid bs a && valid bs b) (endsAt bs a b (compare a b)) (Ends.Refused BadDigit))
     (Ends.Refused WrongLength))
     (Ends.Refused BadBases)

@@ -1,8 +1,8 @@
 // Two copies of a count: where they part, and the counts that they allow.
 ghost use mathlib.Core.Path.{_≡_};
 ghost use mathlib.Core.Bool.{true};
-ghost use Prim.Native.Nat.{_<_};
-ghost use lib.ListN.{length};
+ghost use Prim.Native.Nat.{_≤_, _<_};
+ghost use lib.ListN.{length, take};
 ghost use Rattle.radix.specs.Digits.{valid};
 ghost use Rattle.radix.specs.Copies.{compare, lowEnd, highEnd};
 ghost use Rattle.radix.specs.Answers.{goodBases, compareOf, endsOf};
@@ -40,9 +40,10 @@ pub fn compared(a: &[u8], b: &[u8]) -> Compared
     Compared::Is(first_difference(a, b))
 }
 
-// The first p + 1 digits of b, zeros after.
+// The first p + 1 digits of b, zeros after. The last digits of b need not be there.
 fn high_end(bases: &[u16], p: usize, b: &[u8]) -> Count
-    requires { ⌜ (goodBases (now bases) ≡ true) × (valid (now bases) (now b) ≡ true) × (p < length (now bases)) ⌝ }
+    requires { ⌜ (goodBases (now bases) ≡ true) × (valid (take (length (now b)) (now bases)) (now b) ≡ true)
+        × (p < length (now b)) × (length (now b) ≤ length (now bases)) ⌝ }
     ensures { λ r. ⌜ r ≡ highEnd (now (bases .entry)) p (now (b .entry)) ⌝ }
 {
     let kept = p + 1;
@@ -62,8 +63,9 @@ fn low_end(bases: &[u16], p: usize, a: &[u8]) -> Count
 }
 
 // The counts that two copies allow: the low end and the high end, one count where they are equal.
-pub fn ends(bases: &[u16], a: &[u8], b: &[u8]) -> Ends
-    ensures { λ r. ⌜ r ≡ endsOf (now (bases .entry)) (now (a .entry)) (now (b .entry)) ⌝ }
+// `own` is what the second copy does not share: its last digits are those of the first.
+pub fn ends(bases: &[u16], a: &[u8], own: &[u8]) -> Ends
+    ensures { λ r. ⌜ r ≡ endsOf (now (bases .entry)) (now (a .entry)) (now (own .entry)) ⌝ }
 {
     if !mixed::good(bases) {
         return Ends::Refused(Fault::BadBases);
@@ -71,21 +73,22 @@ pub fn ends(bases: &[u16], a: &[u8], b: &[u8]) -> Ends
     if a.len() != bases.len() {
         return Ends::Refused(Fault::WrongLength);
     }
-    if b.len() != bases.len() {
+    let k = own.len();
+    if bases.len() < k {
         return Ends::Refused(Fault::WrongLength);
     }
     if !mixed::below(bases, a) {
         return Ends::Refused(Fault::BadDigit);
     }
-    if !mixed::below(bases, b) {
+    if !mixed::below(&bases[..k], own) {
         return Ends::Refused(Fault::BadDigit);
     }
-    let c = first_difference(a, b);
+    let c = first_difference(&a[..k], own);
     match c {
         Comparison::Equal => Ends::Same(Count(mixed::horner(bases, a))),
         Comparison::Parted(p) => Ends::Between {
             low: low_end(bases, p, a),
-            high: high_end(bases, p, b),
+            high: high_end(bases, p, own),
         },
         Comparison::Crossed => Ends::Crossed,
     }

@@ -1,5 +1,6 @@
 // Counts and their digits, over the bases that are lent.
 ghost use mathlib.Core.Path.{_≡_};
+ghost use mathlib.Core.List.{_++_};
 ghost use Rattle.radix.specs.Digits.{valid};
 ghost use Rattle.radix.specs.Answers.{goodBases, digitOf, into, digitsInto, valueOf, asCount};
 use crate::Count;
@@ -40,13 +41,25 @@ pub fn write(bases: &[u16], c: Count, out: &mut [u8]) -> Written
     mixed::write(bases, c.0, out)
 }
 
-// The count that digits say.
-pub fn read(bases: &[u16], digits: &[u8]) -> CountRead
-    ensures { λ r. ⌜ r ≡ asCount (valueOf (now (bases .entry)) (now (digits .entry))) ⌝ }
+fn as_count(v: Number) -> CountRead
+    ensures { λ r. ⌜ r ≡ asCount v ⌝ }
 {
-    let v = mixed::read(bases, digits);
     match v {
         Number::Is(x) => CountRead::Is(Count(x)),
         Number::Refused(why) => CountRead::Refused(why),
     }
+}
+
+// The count that digits say.
+pub fn read(bases: &[u16], digits: &[u8]) -> CountRead
+    ensures { λ r. ⌜ r ≡ asCount (valueOf (now (bases .entry)) (now (digits .entry))) ⌝ }
+{
+    as_count(mixed::read(bases, digits))
+}
+
+// The count that digits say which lie in two pieces.
+pub fn read_parts(bases: &[u16], first: &[u8], rest: &[u8]) -> CountRead
+    ensures { λ r. ⌜ r ≡ asCount (valueOf (now (bases .entry)) (now (first .entry) ++ now (rest .entry))) ⌝ }
+{
+    as_count(mixed::read_parts(bases, first, rest))
 }

@@ -2,7 +2,8 @@
 // callers come through `counts`, `versions` and `copies`.
 ghost use mathlib.Core.Path.{_≡_};
 ghost use mathlib.Core.Bool.{true};
-ghost use Prim.Native.Nat.{_/_, _%_, _≤_, _<_};
+ghost use mathlib.Core.List.{_++_};
+ghost use Prim.Native.Nat.{_+_, _/_, _%_, _≤_, _<_};
 ghost use lib.Dec.{ltb};
 ghost use lib.ListN.{length};
 ghost use Rattle.radix.specs.Digits.{product, value, digits, valid};
@@ -174,4 +175,48 @@ pub(crate) fn read(bases: &[u16], digits: &[u8]) -> Number
         return Number::Refused(Fault::BadDigit);
     }
     Number::Is(horner(bases, digits))
+}
+
+// The digits lie in two pieces, as many as bases.
+fn below_parts(bases: &[u16], first: &[u8], rest: &[u8]) -> bool
+    requires { ⌜ length (now first) + length (now rest) ≡ length (now bases) ⌝ }
+    ensures { λ r. ⌜ r ≡ valid (now (bases .entry)) (now (first .entry) ++ now (rest .entry)) ⌝ }
+{
+    let k = first.len();
+    if !below(&bases[..k], first) {
+        return false;
+    }
+    below(&bases[k..], rest)
+}
+
+// The first piece is not empty, so that at most seven bases follow it.
+fn horner_parts(bases: &[u16], first: &[u8], rest: &[u8]) -> u64
+    requires { ⌜ (goodBases (now bases) ≡ true) × (valid (now bases) (now first ++ now rest) ≡ true)
+        × (0 < length (now first)) × (length (now first) + length (now rest) ≡ length (now bases)) ⌝ }
+    ensures { λ r. ⌜ r ≡ value (now (bases .entry)) (now (first .entry) ++ now (rest .entry)) ⌝ }
+{
+    let k = first.len();
+    horner(&bases[..k], first) * weight(&bases[k..]) + horner(&bases[k..], rest)
+}
+
+pub(crate) fn read_parts(bases: &[u16], first: &[u8], rest: &[u8]) -> Number
+    ensures { λ r. ⌜ r ≡ valueOf (now (bases .entry)) (now (first .entry) ++ now (rest .entry)) ⌝ }
+{
+    let k = first.len();
+    if k == 0 {
+        return read(bases, rest);
+    }
+    if !good(bases) {
+        return Number::Refused(Fault::BadBases);
+    }
+    if bases.len() < k {
+        return Number::Refused(Fault::WrongLength);
+    }
+    if bases.len() - k != rest.len() {
+        return Number::Refused(Fault::WrongLength);
+    }
+    if !below_parts(bases, first, rest) {
+        return Number::Refused(Fault::BadDigit);
+    }
+    Number::Is(horner_parts(bases, first, rest))
 }

@@ -105,6 +105,32 @@ fn reads_refused() {
     numbers::read(&[2; 9], &[0; 9]);
 }
 
+// Digits in two pieces: either may be empty.
+fn parts() {
+    numbers::read_parts(&[10], &[], &[9]);
+    numbers::read_parts(&[10], &[9], &[]);
+    numbers::read_parts(&[24, 60], &[], &[23, 59]);
+    numbers::read_parts(&[24, 60], &[23], &[59]);
+    numbers::read_parts(&[24, 60], &[23, 59], &[]);
+    numbers::read_parts(&[10, 10, 10], &[1], &[2, 3]);
+    numbers::read_parts(&[10, 10, 10], &[1, 2], &[3]);
+    numbers::read_parts(&[256; 8], &[255; 1], &[255; 7]);
+    numbers::read_parts(&[256; 8], &[255; 7], &[255; 1]);
+    numbers::read_parts(&[256; 8], &[], &[255; 8]);
+}
+
+// Too few or too many digits in all, a digit at its base in either piece, bad bases.
+fn parts_refused() {
+    numbers::read_parts(&[10, 10], &[], &[9]);
+    numbers::read_parts(&[10, 10], &[9], &[]);
+    numbers::read_parts(&[10, 10], &[9], &[9, 9]);
+    numbers::read_parts(&[10, 10], &[9, 9, 9], &[]);
+    numbers::read_parts(&[24, 60], &[24], &[0]);
+    numbers::read_parts(&[24, 60], &[23], &[60]);
+    numbers::read_parts(&[257], &[9], &[9]);
+    numbers::read_parts(&[2; 9], &[0; 8], &[0]);
+}
+
 // Versions: the largest of four places of base 256 is 2^32 - 1.
 fn versions() {
     numbers::write_version(256, 4, Version(4294967295), &mut [7; 4]);
@@ -173,6 +199,27 @@ fn ends_refused() {
     pairs::ends(&[24, 60], &[11, 57], &[11, 60]);
 }
 
+// The second copy told by its own digits: the last ones are those of the first.
+fn shared() {
+    pairs::ends(&[10], &[5], &[]);
+    pairs::ends(&[24, 60], &[11, 57], &[12]);
+    pairs::ends(&[24, 60], &[11, 57], &[11]);
+    pairs::ends(&[24, 60], &[11, 57], &[10]);
+    pairs::ends(&[24, 60], &[11, 57], &[]);
+    pairs::ends(&[10, 10, 10], &[0, 9, 9], &[1, 0]);
+    pairs::ends(&[256; 8], &[0, 0, 0, 0, 0, 0, 0, 9], &[0, 0, 0, 0, 0, 0, 1]);
+    pairs::ends(&[256; 8], &[255; 8], &[255; 7]);
+}
+
+// More own digits than bases, a first copy too short, a digit at its base among those that are shared and among the
+// others.
+fn shared_refused() {
+    pairs::ends(&[10], &[1], &[1, 2]);
+    pairs::ends(&[24, 60], &[11], &[11]);
+    pairs::ends(&[24, 60], &[11, 60], &[11]);
+    pairs::ends(&[24, 60], &[11, 57], &[24]);
+}
+
 // Bases asked of alone: each from 2 to 256, at most eight.
 fn bases() {
     numbers::good(&[2]);
@@ -202,11 +249,15 @@ fn main() {
     digits_refused();
     reads();
     reads_refused();
+    parts();
+    parts_refused();
     versions();
     versions_refused();
     compares();
     ends();
     ends_refused();
+    shared();
+    shared_refused();
     bases();
     digits_asked();
 }

@@ -27,13 +27,11 @@ pub(crate) fn digit(bases: &[u16], k: usize, c: Count) {
     show::say(b"\n");
 }
 
-pub(crate) fn read(bases: &[u16], digits: &[u8]) {
-    show::say(b"read");
-    show::bytes(digits);
+// What a read answered, and over which bases.
+fn said(bases: &[u16], r: CountRead) {
     show::say(b" over");
     show::bases(bases);
     show::say(b":");
-    let r = radix::counts::read(bases, digits);
     match r {
         CountRead::Is(c) => {
             show::say(b" ");
@@ -42,6 +40,20 @@ pub(crate) fn read(bases: &[u16], digits: &[u8]) {
         CountRead::Refused(why) => show::refused(why),
     }
     show::say(b"\n");
+}
+
+pub(crate) fn read(bases: &[u16], digits: &[u8]) {
+    show::say(b"read");
+    show::bytes(digits);
+    said(bases, radix::counts::read(bases, digits));
+}
+
+pub(crate) fn read_parts(bases: &[u16], first: &[u8], rest: &[u8]) {
+    show::say(b"read");
+    show::bytes(first);
+    show::say(b" then");
+    show::bytes(rest);
+    said(bases, radix::counts::read_parts(bases, first, rest));
 }
 
 pub(crate) fn good(bases: &[u16]) {

@@ -33,13 +33,13 @@ pub(crate) fn compare(a: &[u8], b: &[u8]) {
     show::say(b"\n");
 }
 
-pub(crate) fn ends(bases: &[u16], a: &[u8], b: &[u8]) {
+pub(crate) fn ends(bases: &[u16], a: &[u8], own: &[u8]) {
     show::say(b"ends of");
-    named(a, b);
+    named(a, own);
     show::say(b" over");
     show::bases(bases);
     show::say(b":");
-    let e = radix::copies::ends(bases, a, b);
+    let e = radix::copies::ends(bases, a, own);
     match e {
         Ends::Same(c) => {
             show::say(b" both ");

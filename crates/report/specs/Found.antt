@@ -22,7 +22,13 @@ use Rattle.report.specs.declared.header.Header.{Header}
 use Rattle.report.specs.declared.header.Parsed.{Parsed as Found}
 
 abbrev pub formatIn : List ℕ → Format
-formatIn s = record { q = formIn s .q; base = formIn s .base; n = formIn s .n; readers = formIn s .readers }
+formatIn s = record {
+  q = formIn s .q;
+  base = formIn s .base;
+  layout = formIn s .shared;
+  n = formIn s .n;
+  readers = formIn s .readers;
+}
 
 abbrev pub foundIn : List ℕ → Header
 foundIn s = record {

@@ -1,4 +1,4 @@
--- The header of the program's input: m, the bases, q, the version's base, n, R, the first count, the first record, how
+-- The header of the program's input, whose pages are plain: m, the bases, q, the version's base, n, R, the first count, the first record, how
 -- many records are lent, the records. The rest of the input is commands.
 use mathlib.Core.List.{List, map}
 use mathlib.Core.Bool.{Bool, _&&_, not, cond}
@@ -26,6 +26,7 @@ formEnd s = 7 + 2 * places s
 abbrev pub formIn : List ℕ → Form
 formIn s = record {
   bases = map (λ i. number 2 (1 + 2 * i) s) (range 0 (places s));
+  shared = 0;
   q = getD s (1 + 2 * places s) 0;
   base = number 2 (2 + 2 * places s) s;
   n = number 2 (4 + 2 * places s) s;

@@ -81,21 +81,19 @@ module _ (bs digits : List ℕ) (at low high : ℕ) where
       go p s true false x y = rw (x, y) (eq-eqb (getD digits (at + p) 0) 0 (e .after p s (ltb-false p high y)))
       go p s false b x y = rw x (eq-eqb (getD digits (at + p) 0) 0 (e .before p s (leb-false low p x)))
 
--- the sixteen digits, of which g are gathered
-module _ (bs l : List ℕ) (g : ℕ) (narrow : length bs ≤ 8) where
+-- the sixteen digits, of which g are gathered; the second copy has v of its own
+module _ (bs l : List ℕ) (v g : ℕ) (inner : v ≤ length bs) (narrow : length bs ≤ 8) where
   at-first : (p : ℕ) → getD l (0 + p) 0 ≡ getD l p 0
   at-first p = ap (λ n. getD l n 0) (omega arith)
 
   pub gathered-means :
-      gatheredOk bs l g ≡ true →
-      Low bs (min g (length bs)) (g - length bs) l × Zeros (length bs) (min g (length bs)) (g - length bs) l
+      gatheredOk bs v l g ≡ true →
+      Low bs v (min g (length bs)) (g - length bs) l × Zeros v (min g (length bs)) (g - length bs) l
   unfolding gatheredOk
   gathered-means h =
-      let (u, v) =
-      both (eightOk bs l 0 0 (min g (length bs))) (eightOk bs l 8 (length bs - (g - length bs)) (length bs)) h
-      in
-      let a = eight-means bs l 0 0 (min g (length bs)) u in
-      let b = eight-means bs l 8 (length bs - (g - length bs)) (length bs) v in (
+      let (first, second) = both (eightOk bs l 0 0 (min g (length bs))) (eightOk bs l 8 (v - (g - length bs)) v) h in
+      let a = eight-means bs l 0 0 (min g (length bs)) first in
+      let b = eight-means bs l 8 (v - (g - length bs)) v second in (
         record {
           first = λ p s. rw (at-first p) at (a .inside p (omega arith) (omega arith) s);
           second = λ p s t. b .inside p (omega arith) s t;
@@ -108,8 +106,8 @@ module _ (bs l : List ℕ) (g : ℕ) (narrow : length bs ≤ 8) where
       )
 
   pub means-gathered :
-      Low bs (min g (length bs)) (g - length bs) l → Zeros (length bs) (min g (length bs)) (g - length bs) l →
-      gatheredOk bs l g ≡ true
+      Low bs v (min g (length bs)) (g - length bs) l → Zeros v (min g (length bs)) (g - length bs) l →
+      gatheredOk bs v l g ≡ true
   unfolding gatheredOk
   means-gathered a z =
       together
@@ -118,7 +116,7 @@ module _ (bs l : List ℕ) (g : ℕ) (narrow : length bs ≤ 8) where
         inside = λ p s t u. rw (at-first p) (a .first p u);
         after = λ p s t. at-first p ∙ z .first p t s;
       }))
-      (means-eight bs l 8 (length bs - (g - length bs)) (length bs) (record {
+      (means-eight bs l 8 (v - (g - length bs)) v (record {
         before = λ p s t. z .before p t;
         inside = λ p s t u. a .second p t u;
         after = λ p s t. z .after p t s;

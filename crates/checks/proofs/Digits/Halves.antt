@@ -7,18 +7,18 @@ use native.Mathlib.Omega.{arith}
 use lib.ListN.{length}
 use Rattle.checks.specs.Digits.{eightOk, gatheredOk}
 
-module _ (bs digits : List ℕ) (g : ℕ) where
+-- the second copy has v digits of its own
+module _ (bs : List ℕ) (v : ℕ) (digits : List ℕ) (g : ℕ) where
   pub gathered-first :
-      g < length bs → gatheredOk bs digits g ≡
-      (eightOk bs digits 0 0 g && eightOk bs digits 8 (length bs) (length bs))
+      g < length bs → gatheredOk bs v digits g ≡ (eightOk bs digits 0 0 g && eightOk bs digits 8 v v)
   unfolding gatheredOk
   gathered-first h =
       let e : min g (length bs) ≡ g = omega arith in
-      let f : length bs - (g - length bs) ≡ length bs = omega arith in
+      let f : v - (g - length bs) ≡ v = omega arith in
       rw (e, f)
 
   pub gathered-second :
-      length bs ≤ g → gatheredOk bs digits g ≡
-      (eightOk bs digits 0 0 (length bs) && eightOk bs digits 8 (length bs - (g - length bs)) (length bs))
+      length bs ≤ g → gatheredOk bs v digits g ≡
+      (eightOk bs digits 0 0 (length bs) && eightOk bs digits 8 (v - (g - length bs)) v)
   unfolding gatheredOk
   gathered-second h = let e : min g (length bs) ≡ length bs = omega arith in rw e

@@ -70,7 +70,7 @@ module _ (l : List ℕ) where
   pub zero-sums : (at m n : ℕ) → eqb (sumOf l at m) 0 && eqb (sumOf l (at + m) n) 0 ≡ eqb (sumOf l at (m + n)) 0
   zero-sums at m n = both-zero (sumOf l at m) (sumOf l (at + m) n) ∙ ap (λ k. eqb k 0) (sym (sum-split at m n))
 
-  zero-sum : (at a n : ℕ) → every (λ p. eqb (getD l (at + p) 0) 0) (range a n) ≡ eqb (sumOf l (at + a) n) 0
+  pub zero-sum : (at a n : ℕ) → every (λ p. eqb (getD l (at + p) 0) 0) (range a n) ≡ eqb (sumOf l (at + a) n) 0
   unfolding sumOf
   zero-sum at a zero = refl
   zero-sum at a (suc n) =

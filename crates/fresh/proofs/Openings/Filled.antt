@@ -6,7 +6,7 @@ use Prim.Native.Nat.{ℕ, _+_, _-_, _≤_, _<_}
 use native.Mathlib.Nat.{zero-div, zero-mod}
 use native.Mathlib.Omega.{arith}
 use lib.ListN.{length, take, drop, replicate, length-replicate, length-append, length-take, length-drop}
-use lib.Seq.{take-at, drop-drop, drop-length}
+use lib.Seq.{take-at, take-append-le, take-append-add, drop-drop, drop-length}
 use borrow.Author.Tests.{lt-ltb, eq-eqb}
 use Rattle.radix.specs.Digits.{digits, product}
 use Rattle.radix.specs.Answers.{goodBases, digitsInto}
@@ -39,43 +39,50 @@ zeros-over l at k h e =
 abbrev pub once : (m : ℕ) → List ℕ → List ℕ → List ℕ
 once m d p = d ++ drop m p
 
-abbrev pub twice : (m end : ℕ) → List ℕ → List ℕ → List ℕ
-twice m end d p = take m (once m d p) ++ (d ++ drop (end - m) (drop m (once m d p)))
+abbrev pub twice : (m : ℕ) → List ℕ → List ℕ → List ℕ
+twice m d p = take m (once m d p) ++ (d ++ drop (m + m - m) (drop m (once m d p)))
 
 pub both-written :
     (m end : ℕ) (p z : List ℕ) {x y d : List ℕ} → x ≡ d → y ≡ d →
-    overlay (take m (once m x p) ++ (y ++ drop (end - m) (drop m (once m x p)))) end z ≡ overlay (twice m end d p) end z
+    overlay (take m (once m x p) ++ (y ++ drop (m + m - m) (drop m (once m x p)))) end z ≡ overlay (twice m d p) end z
 both-written m end p z e f = rw (e, f)
 
 -- what the second write is lent
 pub second-length :
-    (m end : ℕ) (d p : List ℕ) → end ≡ m + m → length d ≡ m → end ≤ length p →
-    length (take (end - m) (drop m (once m d p))) ≡ m
-second-length m end d p w e h = simp (length-take, length-drop, length-append) (omega arith)
+    (m : ℕ) (d p : List ℕ) → length d ≡ m → m + m ≤ length p → length (take (m + m - m) (drop m (once m d p))) ≡ m
+second-length m d p e h = simp (length-take, length-drop, length-append) (omega arith)
 
 -- the last part
 last-written : (p : List ℕ) (at : ℕ) (s : List ℕ) → at + length s ≡ length p → overlay p at s ≡ take at p ++ s
 last-written p at s e = rw (e, drop-length p) (append-nil (take at p ++ s))
 
-module _ (p d z r : List ℕ) (m end q n : ℕ) (w : end ≡ m + m) (ed : length d ≡ m) where
-  twice-length : end ≤ length p → length (twice m end d p) ≡ length p
-  twice-length h = simp (length-append, length-take, length-drop) (omega arith)
+-- own digits of the second copy stay
+module _ (p d z r : List ℕ) (m own end q n : ℕ) (w : end ≡ m + own) (few : own ≤ m) (ed : length d ≡ m)
+    (room : m + m ≤ length p) where
+  twice-length : length (twice m d p) ≡ length p
+  twice-length = simp (length-append, length-take, length-drop) (omega arith)
 
-  twice-written : take end (twice m end d p) ≡ d ++ d
+  twice-written : take end (twice m d p) ≡ d ++ take own d
   twice-written =
-      let rest = drop (end - m) (drop m (once m d p)) in
-      rw (take-at d (drop m p) m ed, ← append-assoc d d rest)
-      (take-at (d ++ d) rest end (simp length-append (omega arith)))
+      let rest = drop (m + m - m) (drop m (once m d p)) in
+      rw (
+        take-at d (drop m p) m ed,
+        ← append-assoc d d rest,
+        take-append-le end (d ++ d) rest (simp length-append (omega arith)),
+        w,
+        ← ed,
+      )
+      (take-append-add d d own)
 
   -- the whole page
   pub filled :
       length z ≡ q → length r ≡ n → length p ≡ end + (q + n + q) →
-      overlay (overlay (overlay (twice m end d p) end z) (end + q) r) (end + q + n) z ≡ d ++ d ++ z ++ r ++ z
+      overlay (overlay (overlay (twice m d p) end z) (end + q) r) (end + q + n) z ≡ d ++ take own d ++ z ++ r ++ z
   filled ez er h =
-      let two = twice m end d p in
+      let two = twice m d p in
       let three = overlay two end z in
       let four = overlay three (end + q) r in
-      let l₂ : length two ≡ length p = twice-length (omega arith) in
+      let l₂ : length two ≡ length p = twice-length in
       let l₃ : length three ≡ length p = overlay-length two end z (omega arith) ∙ l₂ in
       let l₄ : length four ≡ length p = overlay-length three (end + q) r (omega arith) ∙ l₃ in
       let t₃ : take (end + q) three ≡ take end two ++ z =

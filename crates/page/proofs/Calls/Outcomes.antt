@@ -1,22 +1,21 @@
 -- What a command answers on valid memory has numbers that fit into the bytes of their entry.
-use mathlib.Core.Path.{_≡_, sym, subst}
+use mathlib.Core.Path.{_≡_}
 use mathlib.Core.Logic.{inr}
-use mathlib.Core.List.{List, _∷_, _++_, reverse}
+use mathlib.Core.List.{List, _∷_}
 use mathlib.Core.Bool.{true, _&&_, _||_, not}
 use Prim.Native.Nat.{ℕ, zero, suc, _+_, _-_, _≤_, _<_}
 use native.Mathlib.Omega.{arith}
 use lib.Dec.{eqb, ltb, leb}
-use lib.ListN.{length, getD, drop, length-append}
-use lib.Seq.{drop-cons}
-use borrow.Author.Tests.{lt-ltb, ltb-false}
+use lib.ListN.{length, getD}
+use borrow.Author.Tests.{ltb-false}
 use Rattle.radix.specs.declared.Comparison.{Comparison}
 use Rattle.radix.specs.declared.Comparison.the-variants.{Equal, Parted, Crossed}
-use Rattle.radix.specs.Digits.{product, value, valid}
+use Rattle.radix.specs.Digits.{product, value, Valid, valid}
 use Rattle.radix.specs.Copies.{compare}
-use Rattle.radix.proofs.Theorems.RoundTrip.{valid-sound, value-lt}
+use Rattle.radix.proofs.Theorems.RoundTrip.{valid-sound, valid-complete, value-lt}
 use Rattle.radix.proofs.Parting.Ends.{zeros-after, largest-after, ends-fit}
 use Rattle.protocol.specs.Lists.{every}
-use Rattle.protocol.specs.Form.{Form, m, versionBases, countSteps, recordSteps, goodForm}
+use Rattle.protocol.specs.Form.{Form, m, own, versionBases, countSteps, recordSteps, goodForm}
 use Rattle.protocol.specs.Layout.{look, c2, v1}
 use Rattle.protocol.specs.State.{Writing, resting, aCount, aRecord, busyWriting}
 use Rattle.protocol.specs.State.{Reading, idle, ofCount, ofRecord, State, readingOf, bufferOf, busyReading}
@@ -32,14 +31,15 @@ use Rattle.protocol.specs.declared.Command.the-variants.{
   ReaderStep,
   Cancel,
 }
-use Rattle.protocol.proofs.Lists.Cases.{by-cond, together, all-getD}
+use Rattle.protocol.proofs.Lists.Cases.{by-cond, all-getD}
 use Rattle.protocol.proofs.InRange.{in-range}
 use Rattle.protocol.proofs.Allowed.Means.{GoodReading, Good}
 use Rattle.protocol.proofs.Allowed.Reader.{Fits as Below, fits}
-use Rattle.checks.proofs.Digits.Valid.{Fit, valid-fit, fit-valid, every-at}
+use Rattle.protocol.proofs.Allowed.Copies.{valid-a, valid-b}
+use Rattle.checks.proofs.Digits.Valid.{fit-valid, every-at}
 use Rattle.checks.proofs.Forms.{good-counts}
 use Rattle.codec.specs.Entry.{Fits}
-use Rattle.page.proofs.Readers.Fitting.{fit-copyA, fit-copyB, version-copyB}
+use Rattle.page.proofs.Readers.Fitting.{version-copyB}
 
 abbrev pub Fine : Answer → Type 0
 Fine (refused why) = Unit {0}
@@ -50,36 +50,18 @@ Told (Gathered.refused why) = Unit {0}
 Told (gathered y b o) = Fits o
 
 module _ (F : Form) (good : goodForm F ≡ true) where
-  abbrev order : List ℕ
-  order = F .bases ++ reverse (F .bases)
-
   count-fits :
-      (r : ℕ) (b one two : List ℕ) → valid (F .bases) one ≡ true → valid (F .bases) two ≡ true → (x : Comparison) →
+      (r : ℕ) (b one two : List ℕ) → Valid (F .bases) one → Valid (F .bases) two → (x : Comparison) →
       Told (endCount F r b one two x)
   unfolding endCount
-  count-fits r b one two v w Equal =
-      omega (arith, value-lt (valid-sound (F .bases) one v), in-range F good .count-fits)
-  count-fits r b one two v w (Parted p) = (
-    omega (arith, largest-after (suc p) (F .bases) one v, ends-fit (suc p) (F .bases) one v (good-counts F good)),
-    omega (arith, zeros-after (suc p) (F .bases) two w, ends-fit (suc p) (F .bases) two w (good-counts F good)),
-  )
+  count-fits r b one two v w Equal = omega (arith, value-lt v, in-range F good .count-fits)
+  count-fits r b one two v w (Parted p) =
+      let v = valid-complete v in
+      let w = valid-complete w in (
+        omega (arith, largest-after (suc p) (F .bases) one v, ends-fit (suc p) (F .bases) one v (good-counts F good)),
+        omega (arith, zeros-after (suc p) (F .bases) two w, ends-fit (suc p) (F .bases) two w (good-counts F good)),
+      )
   count-fits r b one two v w Crossed = tt
-
-  -- all digits of a count read are below their bases
-  all-fit :
-      (d : ℕ) (ds : List ℕ) → GoodReading F (ofCount ds) → Below F (ofCount ds) d → countSteps F ≤ suc (length ds) →
-      Fit order (d ∷ ds)
-  all-fit d ds g t h =
-      let zeroth : countSteps F - suc (length ds) ≡ 0 = omega (arith, g .0) in
-      let first : countSteps F - length ds ≡ 1 = omega (arith, g .0) in
-      let low : d < getD order 0 0 = rw zeroth at t in
-      let rest : valid (drop 1 order) ds ≡ true = subst (λ p. valid (drop p order) ds ≡ true) first (g .1) in
-      let some : 0 < length order =
-      omega (arith, length-append (F .bases) (reverse (F .bases)), in-range F good .places)
-      in
-      valid-fit order (d ∷ ds)
-      (subst (λ (y : List ℕ). valid y (d ∷ ds) ≡ true) (sym (drop-cons order 0 0 some))
-      (together (lt-ltb d (getD order 0 0) low) rest))
 
   attempt-fits :
       (r a f : ℕ) (b : List ℕ) (ds : List ℕ) → length ds ≡ F .q + F .q →
@@ -100,11 +82,10 @@ module _ (F : Form) (good : goodForm F ≡ true) where
   gather-fits who d b idle g t = tt
   gather-fits who d b (ofCount ds) g t =
       by-cond Told (ltb (suc (length ds)) (countSteps F)) (λ e. tt) (λ e.
-      let fit = all-fit d ds g t (ltb-false (suc (length ds)) (countSteps F) e) in
-      count-fits who b (copyA (m F) (d ∷ ds)) (copyB (m F) (d ∷ ds))
-      (fit-valid (F .bases) (copyA (m F) (d ∷ ds)) (fit-copyA (F .bases) (d ∷ ds) fit))
-      (fit-valid (F .bases) (copyB (m F) (d ∷ ds)) (fit-copyB (F .bases) (d ∷ ds) fit))
-      (compare (copyA (m F) (d ∷ ds)) (copyB (m F) (d ∷ ds))))
+      let last = ltb-false (suc (length ds)) (countSteps F) e in
+      count-fits who b (copyA (own F) (d ∷ ds)) (copyB (m F) (d ∷ ds))
+      (valid-a F d ds g t last) (valid-b F d ds g t last (in-range F good .shared))
+      (compare (copyA (own F) (d ∷ ds)) (copyB (m F) (d ∷ ds))))
   gather-fits who d b (ofRecord a f s ds) g t =
       by-cond Told (leb (F .q) s && ltb s (F .q + F .n)) (λ e. tt) (λ e.
       by-cond Told (ltb (suc s) (recordSteps F)) (λ h. tt) (λ h.

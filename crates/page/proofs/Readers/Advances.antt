@@ -8,7 +8,7 @@ use lib.Dec.{eqb, ltb}
 use lib.ListN.{getD, set, take, drop}
 use borrow.Author.Tests.{ltb-true, ltb-false, eqb-true, eq-eqb, ne-eqb}
 use borrow.Rule.Slice.PartMut.{putMid}
-use Rattle.protocol.specs.Form.{Form, m, countSteps, recordSteps}
+use Rattle.protocol.specs.Form.{Form, m, own, countSteps, recordSteps}
 use Rattle.protocol.specs.Step.{nextPosition}
 use Rattle.protocol.specs.Memory.{readerOf}
 use Rattle.protocol.specs.Load.{loadReading}
@@ -78,7 +78,7 @@ module _ (F : Form) (page : List ℕ) (s : Stage) (l bs : List ℕ) (i : ℕ)
     abbrev Law : (digits buffers : List ℕ) → Type 0
     Law l′ bs′ = readBy moved l′ bs′ ≡ readsAt F page i room x bs (ReaderStep i)
 
-    pub advance-count : s .kind ≡ 1 → Law (set l (slotOf (m F) (s .steps)) d) bs
+    pub advance-count : s .kind ≡ 1 → Law (set l (slotOf (m F) (own F) (s .steps)) d) bs
     advance-count k =
         reads-digit F page i room x bs (ReaderStep i) i refl (ready .own) p moved _ at
         (λ b. count-on F s l (is-count k) d i room b (more-count F s on k))

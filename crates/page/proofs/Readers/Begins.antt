@@ -5,7 +5,7 @@ use Prim.Native.Nat.{ℕ, _-_, _≤_}
 use native.Mathlib.Omega.{arith}
 use lib.ListN.{length, replicate}
 use borrow.Author.Tests.{eq-eqb, ne-eqb}
-use Rattle.protocol.specs.Form.{Form, m}
+use Rattle.protocol.specs.Form.{Form, m, own}
 use Rattle.protocol.specs.State.{Reading, ofCount}
 use Rattle.protocol.specs.Memory.{stageAt, readerOf, storedDigits, storedReading}
 use Rattle.protocol.specs.declared.Outcome.the-variants.{Nothing}
@@ -16,13 +16,13 @@ use Rattle.page.specs.declared.Answer.the-variants.{Done, Refused}
 use Rattle.page.specs.Held.{Held}
 use Rattle.page.specs.Left.{left, begun, begunRecord, cancelled}
 use Rattle.page.proofs.Readers.Ways.{at-idle, not-busy, at-busy, held-long}
-use Rattle.page.proofs.Readers.Digits.{stored-none}
+use Rattle.checks.proofs.Digits.Gathered.{stored-none}
 
 -- no digits yet
-pub none-stored : (w : ℕ) → w ≤ 8 → storedDigits w (0 - w) [] ≡ replicate 16 0
-none-stored w narrow =
+pub none-stored : (w v : ℕ) → v ≤ 8 → storedDigits v (0 - w) [] ≡ replicate 16 0
+none-stored w v narrow =
     let e : 0 - w ≡ 0 = omega arith in
-    ap (λ k. storedDigits w k []) e ∙ stored-none w narrow
+    ap (λ k. storedDigits v k []) e ∙ stored-none v narrow
 
 module _ (F : Form) (x : Reader) (held : Held F x) (b : List ℕ) where
   zeros : x .stage .kind ≡ 0 → x .digits ≡ replicate 16 0
@@ -38,7 +38,7 @@ module _ (F : Form) (x : Reader) (held : Held F x) (b : List ℕ) where
       ≡ begun F (ofCount []) x b
   unfolding storedReading
   begin-count k =
-      rw (not-busy F x held k, zeros k, none-stored (m F) (in-range F (held .form) .places .1))
+      rw (not-busy F x held k, zeros k, none-stored (m F) (own F) (omega (arith, in-range F (held .form) .places)))
 
   -- a record read takes an attempt at least
   pub begin-none : (n : ℕ) → n ≡ 0 → left (Refused NoSuch) x b ≡ begunRecord F n x b
@@ -56,7 +56,7 @@ module _ (F : Form) (x : Reader) (held : Held F x) (b : List ℕ) where
         ne-eqb n 0 e,
         not-busy F x held k,
         zeros k,
-        none-stored (F .q) (omega (arith, in-range F (held .form) .versions)),
+        none-stored (F .q) (F .q) (omega (arith, in-range F (held .form) .versions)),
       )
 
   pub cancel-idle : x .stage .kind ≡ 0 → left (Refused NothingPending) x b ≡ cancelled F x b

@@ -26,7 +26,7 @@ use Rattle.page.specs.At.{AtRecord}
 use Rattle.page.specs.Advance.{onward, digitsWith, bufferWith}
 use Rattle.page.specs.Left.{Left, left, onGathered, stepped, WholeAttempt, Copies, AttemptEnds}
 use Rattle.page.proofs.Readers.Fitting.{version-copyA, version-copyB}
-use Rattle.page.proofs.Readers.More.{stored-more, last-place, last-copyA, last-copyB, last-back}
+use Rattle.page.proofs.Readers.More.{stored-more, last-copyA, last-own, put-back}
 use Rattle.page.proofs.Readers.Stored.{quiet, same-fields}
 
 -- the two sides of the bytes
@@ -82,7 +82,7 @@ module _ (F : Form) (s : Stage) (l : List ℕ) (at : AtRecord F (readerOf s l)) 
 
   -- a digit of a version, in its place
   abbrev after : List ℕ
-  after = set l (slotOf (F .q) (versionDigits F (s .steps))) d
+  after = set l (slotOf (F .q) (F .q) (versionDigits F (s .steps))) d
 
   narrow : F .q ≤ 8
   narrow = omega (arith, at .places)
@@ -97,8 +97,8 @@ module _ (F : Form) (s : Stage) (l : List ℕ) (at : AtRecord F (readerOf s l)) 
   version-on who room b out h =
       let g : suc (s .steps) < recordSteps F = omega arith in
       moved who room b (d ∷ ds) after b (rw (out, lt-ltb (suc (s .steps)) (recordSteps F) g))
-      (ap₂ (λ (y : List ℕ) k. set y (slotOf (F .q) k) d) (at .digits) (sym (at .size))
-      ∙ stored-more (F .q) narrow d ds (few out))
+      (ap₂ (λ (y : List ℕ) k. set y (slotOf (F .q) (F .q) k) d) (at .digits) (sym (at .size))
+      ∙ stored-more (F .q) (F .q) narrow d ds (few out))
 
   pub record-on :
       (who room : ℕ) (b : List ℕ) → s .steps + 1 < F .q + F .n + F .q →
@@ -123,21 +123,26 @@ module _ (F : Form) (s : Stage) (l : List ℕ) (at : AtRecord F (readerOf s l)) 
     full : suc (length ds) ≡ F .q + F .q
     full = omega (arith, at .size, at .few, at .places)
 
-    eighth : after ≡ set l 8 d
-    eighth = ap (λ k. set l (slotOf (F .q) k) d) (sym (at .size))
-        ∙ ap (λ p. set l p d) (last-place (F .q) narrow d ds (at .places .1) full)
+    slot-is : slotOf (F .q) (F .q) (versionDigits F (s .steps)) ≡ slotOf (F .q) (F .q) (length ds)
+    slot-is = ap (slotOf (F .q) (F .q)) (sym (at .size))
+
+    -- where the code knows it to be
+    eighth : slotOf (F .q) (F .q) (length ds) ≡ 8
+    eighth = rw (le-ltb (length ds) (F .q) (omega (arith, full))) (omega (arith, full))
 
     copies : Copies (F .q) (d ∷ ds) after
     copies = record {
-      one = ap (take (F .q)) eighth ∙ last-copyA (F .q) narrow d ds (at .places .1) full l (at .digits);
+      one =
+          ap (λ p. take (F .q) (set l p d)) slot-is
+          ∙ last-copyA (F .q) (F .q) narrow d ds full l (at .digits);
       two =
-          ap (λ (y : List ℕ). take (F .q) (drop 8 y)) eighth
-          ∙ last-copyB (F .q) narrow d ds (at .places .1) full l (at .digits);
+          ap (λ p. take (F .q) (drop 8 (set l p d))) slot-is
+          ∙ last-own (F .q) (F .q) narrow d ds full l (at .digits);
     }
 
     back : set after 8 0 ≡ l
-    back = ap (λ (y : List ℕ). set y 8 0) eighth
-        ∙ last-back (F .q) narrow d ds (at .places .1) full l (at .digits)
+    back = ap₂ (λ p z. set (set l p d) z 0) slot-is (sym eighth)
+        ∙ put-back (F .q) (F .q) narrow d ds (omega (arith, full)) l (at .digits)
 
     low : Fits F (loadReading F x) d → (k : ℕ) → k < length (d ∷ ds) → getD (d ∷ ds) k 0 < F .base
     low t zero g = subst (λ σ. Fits F σ d) (at .is) t (outside F (s .steps) out)

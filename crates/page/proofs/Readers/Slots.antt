@@ -14,30 +14,30 @@ use Rattle.checks.specs.Layout.{small, ofSmall, inContent, slotOf}
 use Rattle.checks.proofs.Small.{small-good, of-small}
 use Rattle.checks.proofs.Inside.{slot-inside}
 
--- of a width up to eight
-module _ (w k r : ℕ) (narrow : w ≤ 8) (goes : r ≡ cond (leb w 8) (slotOf w k) 0) where
-  pub slot-is : r ≡ slotOf w k
-  slot-is = goes ∙ rw (le-leb w 8 narrow)
+-- of widths up to eight
+module _ (w v k r : ℕ) (wide : w ≤ 8) (narrow : v ≤ 8) (goes : r ≡ cond (leb w 8 && leb v 8) (slotOf w v k) 0) where
+  pub slot-is : r ≡ slotOf w v k
+  slot-is = goes ∙ rw (le-leb w 8 wide, le-leb v 8 narrow)
 
-  pub slot-within : k < w + w → (l : List ℕ) → length l ≡ 16 → r < length l
-  slot-within few l long = omega (arith, slot-inside w k few narrow, slot-is)
+  pub slot-within : k < w + v → (l : List ℕ) → length l ≡ 16 → r < length l
+  slot-within few l long = omega (arith, slot-inside w v k few wide narrow, slot-is)
 
 module _ (F : Form) (good : goodForm F ≡ true) (k : ℕ) where
   pub byte-test : (t : Bool) → t ≡ (small F && inContent F k) → t ≡ inContent F k
   byte-test t e = e ∙ rw (small-good F good)
 
   -- of a digit of a version
-  module _ (g r : ℕ) (gathers : g ≡ ofSmall F (versionDigits F k)) (goes : r ≡ cond (leb (F .q) 8) (slotOf (F .q) g) 0) where
+  module _ (g r : ℕ) (gathers : g ≡ ofSmall F (versionDigits F k)) (goes : r ≡ cond (leb (F .q) 8 && leb (F .q) 8) (slotOf (F .q) (F .q) g) 0) where
     narrow : F .q ≤ 8
     narrow = let q = in-range F good .versions in omega arith
 
     gathered : g ≡ versionDigits F k
     gathered = gathers ∙ of-small F (versionDigits F k) good
 
-    pub version-slot : r ≡ slotOf (F .q) (versionDigits F k)
-    version-slot = slot-is (F .q) g r narrow goes ∙ ap (slotOf (F .q)) gathered
+    pub version-slot : r ≡ slotOf (F .q) (F .q) (versionDigits F k)
+    version-slot = slot-is (F .q) (F .q) g r narrow narrow goes ∙ ap (slotOf (F .q) (F .q)) gathered
 
     pub version-within : k < recordSteps F → (l : List ℕ) → length l ≡ 16 → r < length l
     version-within few =
         let q = in-range F good .versions in
-        slot-within (F .q) g r narrow goes (omega (arith, gathered))
+        slot-within (F .q) (F .q) g r narrow narrow goes (omega (arith, gathered))

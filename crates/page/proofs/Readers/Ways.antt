@@ -4,14 +4,14 @@ use mathlib.Core.Bool.{true, false}
 use Prim.Native.Nat.{_-_, _<_}
 use native.Mathlib.Omega.{arith}
 use lib.ListN.{length}
-use Rattle.protocol.specs.Form.{Form, m}
+use Rattle.protocol.specs.Form.{Form}
 use Rattle.protocol.specs.State.{Reading, idle, ofCount, ofRecord, busyReading}
 use Rattle.protocol.specs.Memory.{storedReading}
 use Rattle.protocol.specs.Load.{loadReading}
 use Rattle.protocol.specs.declared.Reader.{Reader}
 use Rattle.protocol.proofs.InRange.{InRange, in-range}
 use Rattle.protocol.proofs.Allowed.Means.{GoodReading, reading-means}
-use Rattle.protocol.proofs.Memory.Digits.{length-storedDigits}
+use Rattle.protocol.proofs.Allowed.Stored.{length-storedReading}
 use Rattle.page.specs.Held.{Held}
 use Rattle.page.specs.At.{AtCount, AtRecord}
 
@@ -44,16 +44,8 @@ module _ (F : Form) (x : Reader) (held : Held F x) where
       go (ofRecord a f s ds) e = refl
 
   pub held-long : length (x .digits) ≡ 16
-  unfolding storedReading
-  held-long = ap (λ (y : Reader). length (y .digits)) (sym (held .stored)) ∙ go (loadReading F x) good
-    where
-      go : (σ : Reading) → GoodReading F σ → length (storedReading F σ .digits) ≡ 16
-      go idle g = refl
-      go (ofCount ds) g =
-          length-storedDigits (m F) ds (length ds - m F) (range .places .1) (omega (arith, g .0)) refl
-      go (ofRecord a f s ds) g =
-          length-storedDigits (F .q) ds (length ds - F .q) (omega (arith, range .versions)) (omega (arith, g .1, g .2))
-          refl
+  held-long =
+      ap (λ (y : Reader). length (y .digits)) (sym (held .stored)) ∙ length-storedReading F range (loadReading F x) good
 
   pub held-steps : x .stage .steps < 18446744073709551615
   unfolding storedReading
@@ -76,6 +68,7 @@ module _ (F : Form) (x : Reader) (held : Held F x) where
           record {
             form = held .form;
             places = range .places;
+            shared = range .shared;
             ds = ds;
             is = p;
             numbers =

@@ -1,10 +1,10 @@
 -- What the page says of the last count and the last version, as radix reads them.
-use mathlib.Core.Path.{_≡_, sym, ap, _∙_}
-use mathlib.Core.List.{List}
+use mathlib.Core.Path.{_≡_, refl, sym, ap, _∙_}
+use mathlib.Core.List.{List, [], _∷_, _++_}
 use mathlib.Core.Bool.{true}
-use Prim.Native.Nat.{ℕ, _+_, _-_, _≤_}
+use Prim.Native.Nat.{ℕ, zero, suc, _+_, _-_, _≤_}
 use native.Mathlib.Omega.{arith}
-use lib.ListN.{length, take, drop, replicate}
+use lib.ListN.{length, take, drop, replicate, length-take, length-drop}
 use borrow.Author.Tests.{le-leb, eq-eqb}
 use Rattle.radix.specs.Digits.{value, valid}
 use Rattle.radix.specs.Answers.{goodBases, valueOf, asCount, asVersion, versionValue}
@@ -15,13 +15,13 @@ use Rattle.radix.specs.declared.CountRead.{CountRead}
 use Rattle.radix.specs.declared.VersionRead.{VersionRead}
 use Rattle.radix.proofs.Theorems.RoundTrip.{valid-sound, length-valid}
 use Rattle.protocol.specs.Lists.{range}
-use Rattle.protocol.specs.Form.{Form, m, versionBases, goodForm}
+use Rattle.protocol.specs.Form.{Form, m, own, versionBases, countSteps, goodForm}
 use Rattle.protocol.specs.Layout.{c1, c2, v1, v2, look}
 use Rattle.protocol.specs.Allowed.{allowedPage}
 use Rattle.protocol.proofs.InRange.{in-range}
 use Rattle.protocol.proofs.Lists.Cases.{four}
 use Rattle.checks.proofs.Forms.{good-counts, good-versions}
-use Rattle.checks.proofs.Looks.{look-part}
+use Rattle.checks.proofs.Looks.{look-part, look-c2}
 use Rattle.page.specs.Held.{pageLength}
 
 -- a part of the page, as the code lends it
@@ -30,6 +30,18 @@ lent-part :
 lent-part page a n e is h =
     let size : e - a ≡ n = omega arith in
     ap (λ k. take k (drop a page)) size ∙ sym (look-part page a n h)
+
+drop-take : (k n : ℕ) (l : List ℕ) → drop k (take n l) ≡ take (n - k) (drop k l)
+drop-take zero n l = let e : n ≡ n - 0 = omega arith in ap (λ i. take i l) e
+drop-take (suc k) zero l = let e : 0 - suc k ≡ 0 = omega arith in rw e
+drop-take (suc k) (suc n) [] = go (suc n - suc k)
+  where
+    go : (i : ℕ) → _≡_ {A = List ℕ} [] (take i [])
+    go zero = refl
+    go (suc i) = refl
+drop-take (suc k) (suc n) (x ∷ l) =
+    let e : n - k ≡ suc n - suc k = omega arith in
+    drop-take k n l ∙ ap (λ i. take i (drop k l)) e
 
 -- valid digits are read as their value
 count-is :
@@ -71,23 +83,29 @@ module _
     (allows : allowedPage F page ≡ true)
     (end : ℕ)
   where
-    -- the second copy of the count
+    -- the second copy of the count, as the code lends it: its own digits, then those that are the first's too
     pub read-count :
-        end ≡ m F + m F →
-        asCount (valueOf (F .bases) (take (end - m F) (drop (m F) page)))
+        (n : ℕ) → end ≡ countSteps F → n ≡ own F →
+        asCount (valueOf (F .bases) (take (end - m F) (drop (m F) page) ++ take (m F - n) (drop n page)))
         ≡ CountRead.Is (record { 0 = value (F .bases) (look page (c2 F)) })
     unfolding allowedPage
-    read-count is =
+    read-count n is shares =
         let v =
         four (valid (F .bases) (look page (c1 F))) (valid (F .bases) (look page (c2 F)))
         (valid (versionBases F) (look page (v1 F))) (valid (versionBases F) (look page (v2 F))) allows
         in
-        rw (lent-part page (m F) (m F) end is (omega (arith, long)))
-        (count-is (F .bases) (look page (c2 F)) (good-counts F good) (v .1))
+        let size : end - m F ≡ own F = omega arith in
+        let owns : length (take (own F) (drop (m F) page)) ≡ own F =
+        simp (length-take, length-drop) (omega (arith, long))
+        in
+        rw (size, shares, ← drop-take (own F) (m F) page)
+        (ap (λ k. asCount (valueOf (F .bases) (take (own F) (drop (m F) page) ++ drop k (take (m F) page)))) (sym owns)
+        ∙ ap (λ (l : List ℕ). asCount (valueOf (F .bases) l)) (sym (look-c2 F page long))
+        ∙ count-is (F .bases) (look page (c2 F)) (good-counts F good) (v .1))
 
     -- the first copy of the version
     pub read-version :
-        (from : ℕ) → from ≡ m F + m F → end ≡ from + F .q →
+        (from : ℕ) → from ≡ countSteps F → end ≡ from + F .q →
         asVersion (versionValue (F .base) (F .q) (take (end - from) (drop from page)))
         ≡ VersionRead.Is (record { 0 = value (versionBases F) (look page (v1 F)) })
     unfolding allowedPage
@@ -97,6 +115,6 @@ module _
         (valid (versionBases F) (look page (v1 F))) (valid (versionBases F) (look page (v2 F))) allows
         in
         ap (λ a. asVersion (versionValue (F .base) (F .q) (take (end - a) (drop a page)))) at
-        ∙ rw (lent-part page (m F + m F) (F .q) end (omega arith) (omega (arith, long)))
+        ∙ rw (lent-part page (countSteps F) (F .q) end (omega arith) (omega (arith, long)))
         (version-is (F .base) (F .q) (in-range F good .versions .1) (good-versions F good)
         (look page (v1 F)) (v .2))

@@ -10,27 +10,24 @@ use lib.ListN.{length, getD, drop}
 use lib.Seq.{getD-take, getD-drop}
 use borrow.Author.Tests.{leb-true, leb-false, ltb-true, ltb-false, lt-ltb, le-ltb}
 use Rattle.radix.specs.Digits.{digits}
-use Rattle.protocol.specs.Form.{Form, m, versionBases, countSteps, recordSteps}
+use Rattle.protocol.specs.Form.{Form, m, own, versionBases, countSteps, recordSteps}
 use Rattle.protocol.specs.Step.{recordAt, inRecords}
 use Rattle.protocol.specs.Allowed.{versionDigits}
-use Rattle.protocol.proofs.Lists.Cases.{both}
-use Rattle.protocol.proofs.Positions.Counts.{countImage}
+use Rattle.protocol.proofs.Lists.Cases.{by-cond, both}
+use Rattle.protocol.proofs.Positions.Counts.{countImage, countDigitLow, countDigitHigh}
 use Rattle.protocol.proofs.Positions.Records.{recordImage, recordDigitMid}
-use Rattle.protocol.proofs.Positions.Steps.{digit-low, digit-high, version-before, version-after}
+use Rattle.protocol.proofs.Positions.Steps.{version-before, version-after}
 use Rattle.protocol.proofs.Allowed.Writer.{record-length}
 use Rattle.checks.specs.Layout.{inContent, thereAndBack}
 
 -- A COUNT
 
 module _ (F : Form) (c k : ℕ) (inside : k < countSteps F) where
-  pub count-digit : getD (digits (F .bases) c) (thereAndBack (m F) k) 0 ≡ getD (countImage F c) k 0
-  count-digit = go (ltb k (m F)) refl
-    where
-      go : (t : Bool) → ltb k (m F) ≡ t
-          → getD (digits (F .bases) c) (thereAndBack (m F) k) 0 ≡ getD (countImage F c) k 0
-      go true e = rw e (sym (digit-low F c k (ltb-true k (m F) e)))
-      go false e =
-          rw e (sym (digit-high F c k (m F + m F - 1 - k) (ltb-false k (m F) e) (omega arith)))
+  pub count-digit : getD (digits (F .bases) c) (thereAndBack (own F) (m F) k) 0 ≡ getD (countImage F c) k 0
+  count-digit =
+      by-cond (λ j. getD (digits (F .bases) c) j 0 ≡ getD (countImage F c) k 0) (ltb k (own F))
+      (λ e. sym (countDigitLow F c k (ltb-true k (own F) e)))
+      (λ e. sym (countDigitHigh F c k (own F + m F - 1 - k) (ltb-false k (own F) e) (omega arith)))
 
 -- A RECORD
 
@@ -39,13 +36,13 @@ module _ (F : Form) (v k : ℕ) (r : List ℕ) (size : length r ≡ F .n) where
   pub version-step :
       inContent F k ≡ false → k < recordSteps F →
       (versionDigits F k < F .q + F .q)
-      × (getD (digits (versionBases F) v) (thereAndBack (F .q) (versionDigits F k)) 0 ≡ getD (recordImage F v r) k 0)
+      × (getD (digits (versionBases F) v) (thereAndBack (F .q) (F .q) (versionDigits F k)) 0 ≡ getD (recordImage F v r) k 0)
   version-step out inside = go (leb (F .q) k) (ltb k (F .q + F .n)) refl refl
     where
       go :
           (a b : Bool) → leb (F .q) k ≡ a → ltb k (F .q + F .n) ≡ b →
           (versionDigits F k < F .q + F .q)
-          × (getD (digits (versionBases F) v) (thereAndBack (F .q) (versionDigits F k)) 0
+          × (getD (digits (versionBases F) v) (thereAndBack (F .q) (F .q) (versionDigits F k)) 0
           ≡ getD (recordImage F v r) k 0)
       go false b x y =
           let h : k < F .q = leb-false (F .q) k x in

@@ -1,32 +1,20 @@
 -- A reader's step leaves an allowed state: the digit that it gathers is below its base at the right place.
 use mathlib.Core.Path.{_≡_, refl, sym, _∙_, subst}
 use mathlib.Core.Logic.{_⊎_, inl, inr}
-use mathlib.Core.List.{List, [], _∷_, _++_, reverse}
+use mathlib.Core.List.{List, [], _∷_}
 use mathlib.Core.Bool.{Bool, true, false, _&&_}
 use Prim.Native.Nat.{ℕ, suc, _+_, _-_, _≤_, _<_}
-use native.Mathlib.Nat.{zero-add}
 use native.Mathlib.Omega.{arith}
 use lib.Dec.{eqb, ltb, leb}
-use lib.ListN.{
-  length,
-  drop,
-  getD,
-  length-append,
-  length-replicate,
-  length-reverse,
-  length-set,
-  drop-of-length-le,
-  getD-replicate,
-  List·getD-append,
-}
+use lib.ListN.{length, drop, getD, length-replicate, length-set, drop-of-length-le, getD-replicate}
 use lib.Seq.{drop-cons}
 use borrow.Author.Tests.{ltb-true, ltb-false, lt-ltb, leb-true, leb-false}
 use Rattle.radix.specs.Digits.{value, valid}
 use Rattle.radix.specs.Copies.{compare}
 use Rattle.radix.specs.declared.Comparison.{Comparison}
 use Rattle.radix.specs.declared.Comparison.the-variants.{Equal, Parted, Crossed}
-use Rattle.protocol.specs.Form.{Form, m, versionBases, countSteps, recordSteps}
-use Rattle.protocol.specs.Layout.{countOrder, attemptOrder}
+use Rattle.protocol.specs.Form.{Form, m, own, versionBases, countSteps, recordSteps}
+use Rattle.protocol.specs.Layout.{countBases, attemptOrder}
 use Rattle.protocol.specs.Allowed.{versionDigits}
 use Rattle.protocol.specs.State.{Reading, idle, ofCount, ofRecord, State, readingOf, bufferOf}
 use Rattle.protocol.specs.Step.{
@@ -43,9 +31,9 @@ use Rattle.protocol.specs.Step.{
 }
 use Rattle.protocol.proofs.Lists.Cases.{by-cond, together, both, all-get, all-getD}
 use Rattle.protocol.proofs.InRange.{InRange}
-use Rattle.protocol.proofs.Lists.Places.{getD-reverse, getD-right, getD-past}
-use Rattle.protocol.proofs.Positions.Records.{length-versionBases}
-use Rattle.protocol.proofs.Positions.Steps.{count-low, count-high, count-read, attempt-after, attempt-before}
+use Rattle.protocol.proofs.Positions.Counts.{countRead, length-countBases}
+use Rattle.protocol.proofs.Positions.Records.{v1-at, v2-at, length-versionBases}
+use Rattle.protocol.proofs.Positions.Steps.{attempt-after, attempt-before}
 use Rattle.protocol.proofs.Allowed.Means.{GoodPage, GoodReading}
 use Rattle.protocol.proofs.Allowed.Kept.{Fine, Kept, fine-reader}
 
@@ -53,14 +41,10 @@ abbrev pub GoodGathered : Form → Gathered → Type 0
 GoodGathered F (Gathered.refused why) = Unit {0}
 GoodGathered F (gathered x b o) = GoodReading F x × (length b ≡ F .n)
 
--- the bases in the order of a count write
-abbrev pub order : Form → List ℕ
-order F = F .bases ++ reverse (F .bases)
-
 -- the digit that a reader is about to gather is below its base; a byte of the record may be anything
 abbrev pub Fits : Form → Reading → ℕ → Type 0
 Fits F idle d = Unit {0}
-Fits F (ofCount ds) d = d < getD (order F) (countSteps F - suc (length ds)) 0
+Fits F (ofCount ds) d = d < getD (countBases F) (countSteps F - suc (length ds)) 0
 Fits F (ofRecord a f s ds) d = (s < F .q) ⊎ (F .q + F .n ≤ s) → d < F .base
 
 outside : (a b c : ℕ) → leb a b && ltb b c ≡ false → (b < a) ⊎ (c ≤ b)
@@ -74,53 +58,42 @@ outside a b c h = go (leb a b) (ltb b c) refl refl h
 module _ (F : Form) where
   -- what the page shows
   module _ (page : List ℕ) (good : GoodPage F page) where
-    pub order-below : (p : ℕ) → p < countSteps F → getD page (getD (countOrder F) p 0) 0 < getD (order F) p 0
-    order-below p h = go (ltb p (m F)) refl
-      where
-        go : (t : Bool) → ltb p (m F) ≡ t → getD page (getD (countOrder F) p 0) 0 < getD (order F) p 0
-        go true e =
-            let l : p < m F = ltb-true p (m F) e in
-            rw (count-low F p l, List·getD-append (F .bases) (reverse (F .bases)) 0 p l) (good .second p l)
-        go false e =
-            let l : m F ≤ p = ltb-false p (m F) e in
-            let j : ℕ = countSteps F - suc p in
-            rw (
-              count-high F p j l (omega arith),
-              getD-past (order F) 0 (m F) p l,
-              getD-right (F .bases) (reverse (F .bases)) 0 (m F) (p - m F) refl,
-              getD-reverse (F .bases) 0 (p - m F) j (omega arith),
-            )
-            (rw zero-add at (good .first j (omega arith)))
-
     version-below : (k : ℕ) → k < F .q → getD (versionBases F) k 0 ≡ F .base
     version-below k h = getD-replicate (F .q) k (F .base) 0 h
 
     version-fits : (s : ℕ) → s < recordSteps F → (s < F .q) ⊎ (F .q + F .n ≤ s)
         → getD page (getD (attemptOrder F) s 0) 0 < F .base
     version-fits s g (inl h) =
-        rw (attempt-after F s h) (rw (version-below s h) at (good .after s (omega (arith, length-versionBases F))))
+        rw (attempt-after F s h)
+        (rw (v2-at F s h, version-below s h) at (good .after s (omega (arith, length-versionBases F))))
     version-fits s g (inr h) =
         let j : ℕ = recordSteps F - suc s in
         let l : j < F .q = omega arith in
         rw (attempt-before F s j h (omega arith))
-        (rw (version-below j l) at (good .before j (omega (arith, length-versionBases F))))
+        (rw (v1-at F j l, version-below j l) at (good .before j (omega (arith, length-versionBases F))))
 
     pub fits : (x : Reading) → GoodReading F x → Fits F x (getD page (nextPosition F x) 0)
     fits idle g = tt
     fits (ofCount ds) g =
         let p : ℕ = countSteps F - suc (length ds) in
-        rw (count-read F (length ds) p (omega arith)) (order-below p (omega arith))
+        rw (countRead F (length ds) p (omega arith)) (good .counts p (omega (arith, length-countBases F)))
     fits (ofRecord a f s ds) g = version-fits s (g .1)
 
-  -- the order has a base for each step
-  length-order : length (order F) ≡ countSteps F
-  length-order = length-append (F .bases) (reverse (F .bases)) ∙ omega (arith, length-reverse (F .bases))
+  -- one more digit of a count, the last one too
+  pub one-more : (d : ℕ) (ds : List ℕ) → GoodReading F (ofCount ds) → Fits F (ofCount ds) d
+      → valid (drop (countSteps F - suc (length ds)) (countBases F)) (d ∷ ds) ≡ true
+  one-more d ds g l =
+      let p : ℕ = countSteps F - suc (length ds) in
+      let same : suc p ≡ countSteps F - length ds = omega arith in
+      let inside : p < length (countBases F) = omega (arith, length-countBases F) in
+      let rest = subst (λ (i : ℕ). valid (drop i (countBases F)) ds ≡ true) (sym same) (g .1) in
+      rw (drop-cons (countBases F) p 0 inside) (together (lt-ltb d (getD (countBases F) p 0) l) rest)
 
 module _ (F : Form) (range : InRange F) where
   pub begun-count : GoodReading F (ofCount [])
   begun-count =
-      let all : length (order F) ≤ countSteps F - 0 = omega (arith, length-order F) in
-      (omega (arith, range .places), rw (drop-of-length-le (order F) all))
+      let all : length (countBases F) ≤ countSteps F - 0 = omega (arith, length-countBases F) in
+      (omega (arith, range .places), rw (drop-of-length-le (countBases F) all))
 
   -- what a step makes of the digit
   module _ (r d : ℕ) (buffer : List ℕ) (full : length buffer ≡ F .n) where
@@ -143,12 +116,7 @@ module _ (F : Form) (range : InRange F) where
 
     more-count : (ds : List ℕ) → GoodReading F (ofCount ds) → suc (length ds) < countSteps F → Fits F (ofCount ds) d
         → GoodReading F (ofCount (d ∷ ds))
-    more-count ds g h l =
-        let p : ℕ = countSteps F - suc (length ds) in
-        let same : suc p ≡ countSteps F - length ds = omega arith in
-        let inside : p < length (order F) = omega (arith, length-order F) in
-        let rest = subst (λ (i : ℕ). valid (drop i (order F)) ds ≡ true) (sym same) (g .1) in
-        (h, rw (drop-cons (order F) p 0 inside) (together (lt-ltb d (getD (order F) p 0) l) rest))
+    more-count ds g h l = (h, one-more F d ds g l)
 
     -- a step outside the bytes gathers one more digit of a version
     more-version : (s : ℕ) (ds : List ℕ) → (s < F .q) ⊎ (F .q + F .n ≤ s) → length ds ≡ versionDigits F s
@@ -163,8 +131,8 @@ module _ (F : Form) (range : InRange F) where
         by-cond (GoodGathered F) (ltb (suc (length ds)) (countSteps F))
         (λ h. (more-count ds g (ltb-true (suc (length ds)) (countSteps F) h) l, full))
         (λ h.
-        count-ends (copyA (m F) (d ∷ ds)) (copyB (m F) (d ∷ ds))
-        (compare (copyA (m F) (d ∷ ds)) (copyB (m F) (d ∷ ds))))
+        count-ends (copyA (own F) (d ∷ ds)) (copyB (m F) (d ∷ ds))
+        (compare (copyA (own F) (d ∷ ds)) (copyB (m F) (d ∷ ds))))
     gather-good (ofRecord a f s ds) g l =
         by-cond (GoodGathered F) (leb (F .q) s && ltb s (F .q + F .n))
         (λ h.

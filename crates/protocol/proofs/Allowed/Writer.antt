@@ -11,19 +11,15 @@ use borrow.Author.Tests.{ltb-true, ltb-false, leb-true, eqb-false}
 use Rattle.radix.specs.Digits.{digits}
 use Rattle.radix.specs.declared.Count.{Count}
 use Rattle.radix.specs.declared.Version.{Version}
-use Rattle.protocol.specs.Form.{Form, m, versionBases, countSteps, recordSteps}
+use Rattle.protocol.specs.Form.{Form, versionBases, countSteps, recordSteps}
 use Rattle.protocol.specs.Layout.{countOrder, countDigits, recordOrder, recordDigits}
 use Rattle.protocol.specs.State.{Writing, resting, aCount, aRecord, State}
 use Rattle.protocol.specs.Step.{recordAt, inRecords, onward, stepWriter}
 use Rattle.protocol.proofs.Lists.Cases.{by-cond}
-use Rattle.protocol.proofs.Positions.Counts.{countImage}
+use Rattle.protocol.proofs.Positions.Counts.{countImage, count-below}
 use Rattle.protocol.proofs.InRange.{InRange}
 use Rattle.protocol.proofs.Positions.Records.{recordImage, length-versionBases}
 use Rattle.protocol.proofs.Positions.Steps.{
-  count-low,
-  count-high,
-  digit-low,
-  digit-high,
   record-before,
   record-content,
   record-after,
@@ -33,10 +29,9 @@ use Rattle.protocol.proofs.Positions.Steps.{
 use Rattle.protocol.proofs.Allowed.Means.{GoodPage, GoodWriting}
 use Rattle.protocol.proofs.Allowed.Page.{
   digit-lt,
-  positive-bases,
   positive-versions,
-  into-first,
-  into-second,
+  image-lt,
+  into-count,
   into-before,
   into-content,
   into-after,
@@ -51,22 +46,9 @@ record-length F S i h =
 module _ (F : Form) (range : InRange F) (page : List ℕ) (good : GoodPage F page) where
   count-page : (c k : ℕ) → k < countSteps F → countSteps F ≤ length page
       → GoodPage F (set page (getD (countOrder F) k 0) (getD (countImage F c) k 0))
-  count-page c k h size = go (ltb k (m F)) refl
-    where
-      go : (t : Bool) → ltb k (m F) ≡ t
-          → GoodPage F (set page (getD (countOrder F) k 0) (getD (countImage F c) k 0))
-      go true e =
-          let l : k < m F = ltb-true k (m F) e in
-          rw (count-low F k l, digit-low F c k l)
-          (into-second F page (m F + k) (getD (digits (F .bases) c) k 0) (omega arith) good k l refl
-          (digit-lt (F .bases) c k (positive-bases F range) l))
-      go false e =
-          let l : m F ≤ k = ltb-false k (m F) e in
-          let j : ℕ = countSteps F - suc k in
-          let s : suc (k + j) ≡ countSteps F = omega arith in
-          rw (count-high F k j l s, digit-high F c k j l s)
-          (into-first F page j (getD (digits (F .bases) c) j 0) (omega arith) good (omega arith)
-          (digit-lt (F .bases) c j (positive-bases F range) (omega arith)))
+  count-page c k h size =
+      into-count F page (getD (countOrder F) k 0) (getD (countImage F c) k 0) (omega (arith, count-below F k h)) good k h
+      refl (image-lt F range c k h)
 
   module _
       (v : ℕ)
@@ -86,13 +68,13 @@ module _ (F : Form) (range : InRange F) (page : List ℕ) (good : GoodPage F pag
       written-before : k < F .q → Written
       written-before g =
           rw (record-before F k g, version-before F v r size k g)
-          (into-before F page (m F + m F + k) (getD (digits (versionBases F) v) k 0) (omega arith) good k g refl
+          (into-before F page (countSteps F + k) (getD (digits (versionBases F) v) k 0) (omega arith) good k g refl
           (version-lt k g))
 
       written-content : F .q ≤ k → k < F .q + F .n → Written
       written-content g l =
           rw (record-content F k g l)
-          (into-content F page (m F + m F + k) (getD (recordImage F v r) k 0) (omega arith) good (k - F .q)
+          (into-content F page (countSteps F + k) (getD (recordImage F v r) k 0) (omega arith) good (k - F .q)
           (omega arith) (omega arith))
 
       written-after : F .q + F .n ≤ k → Written
@@ -100,7 +82,7 @@ module _ (F : Form) (range : InRange F) (page : List ℕ) (good : GoodPage F pag
           let j : ℕ = recordSteps F - suc k in
           let s : suc (k + j) ≡ recordSteps F = omega arith in
           rw (record-after F k j g s, version-after F v r size k j g s)
-          (into-after F page (m F + m F + F .q + F .n + j) (getD (digits (versionBases F) v) j 0) (omega arith) good
+          (into-after F page (countSteps F + F .q + F .n + j) (getD (digits (versionBases F) v) j 0) (omega arith) good
           j (omega arith) refl (version-lt j (omega arith)))
 
       record-page : Written

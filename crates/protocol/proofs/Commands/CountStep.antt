@@ -12,7 +12,7 @@ use Rattle.radix.specs.declared.Count.{Count}
 use Rattle.radix.specs.declared.Comparison.{Comparison}
 use Rattle.radix.specs.declared.Comparison.the-variants.{Equal, Parted, Crossed}
 use Rattle.radix.specs.Copies.{compare, Choice, shown}
-use Rattle.protocol.specs.Form.{Form, m, countSteps}
+use Rattle.protocol.specs.Form.{Form, m, own, countSteps}
 use Rattle.protocol.specs.Layout.{countReadOrder}
 use Rattle.protocol.specs.State.{idle, ofCount, State, bufferOf}
 use Rattle.protocol.specs.Outcome.{isAccepted}
@@ -66,7 +66,7 @@ module _ (F : Form) (x : Count) (r₀ : List ℕ) (ok : Proper F r₀) (story : 
 
   more : Counting F x (suc (h .now)) (countAt x h) (h .counts) ds′ us
   more =
-      gathers F x (ok .places) (h .now) (countPending (h .pending)) (h .counts) (inv .counts .fit) (σ .page) ds ts
+      gathers F x (ok .places) (ok .shared) (h .now) (countPending (h .pending)) (h .counts) (inv .counts .fit) (σ .page) ds ts
       (inv .counts .holds) counting few
 
   abbrev low : ℕ
@@ -90,7 +90,7 @@ module _ (F : Form) (x : Count) (r₀ : List ℕ) (ok : Proper F r₀) (story : 
         rw (eq-eqb (suc (length ts)) (countSteps F) (omega (arith, counting .same)))
         (reader-inv F x r₀ ok story σ h inv r reader o idle Read.noRead buffer (y ∷ h .countReads) (h .attempts)
         (inv .marks) idles (record { reads = λ i t q. inr q; attempts = λ i t q. q }) told
-        (count-reader F x (ok .places) story (h .now) (σ .page) (countPending (h .pending)) (h .counts) (σ .readings)
+        (count-reader F x (ok .places) (ok .shared) story (h .now) (σ .page) (countPending (h .pending)) (h .counts) (σ .readings)
         (h .reads) (h .countReads) (inv .counts) e (inv .time) r idle Read.noRead (y ∷ h .countReads)
         (at-readings F x r₀ ok story σ h inv r reader) (at-reads F x r₀ ok story σ h inv r reader) tt (
           record {
@@ -98,7 +98,7 @@ module _ (F : Form) (x : Count) (r₀ : List ℕ) (ok : Proper F r₀) (story : 
             begins = first-le (desc-now (counting .desc));
             ends = (omega arith, le-refl _);
           },
-          count-kept F x (ok .places) story (h .now) (σ .page) (countPending (h .pending)) (h .counts) (σ .readings)
+          count-kept F x (ok .places) (ok .shared) story (h .now) (σ .page) (countPending (h .pending)) (h .counts) (σ .readings)
               (h .reads) (h .countReads) (inv .counts) e (inv .time),
         ))
         (records-on F x r₀ ok story σ h inv r reader o idle Read.noRead buffer (inv .records .buffered r reader) tt))
@@ -111,8 +111,8 @@ module _ (F : Form) (x : Count) (r₀ : List ℕ) (ok : Proper F r₀) (story : 
     -- the copies are not crossed
     ends-count :
         (c : Comparison) →
-        Within (Wrote F x (lastOf us) (h .counts)) (F .bases) low high (copyA (m F) ds′) (copyB (m F) ds′) c →
-        Comes (endCount F r buffer (copyA (m F) ds′) (copyB (m F) ds′) c)
+        Within (Wrote F x (lastOf us) (h .counts)) (F .bases) low high (copyA (own F) ds′) (copyB (m F) ds′) c →
+        Comes (endCount F r buffer (copyA (own F) ds′) (copyB (m F) ds′) c)
     unfolding endCount
     ends-count Equal w = ends-as _ (refl, record { low = w .0; high = w .1 }, w .2) (inl (refl, refl))
     ends-count (Parted p) w = ends-as _ (refl, w .1, either _ _ (w .0) (w .1) (w .2)) (inl (refl, refl))
@@ -132,6 +132,6 @@ module _ (F : Form) (x : Count) (r₀ : List ℕ) (ok : Proper F r₀) (story : 
       (readsCount (ap suc (counting .same)) l) (inv .records .buffered r reader) more tt))
       (λ a.
       let full : suc (length ds) ≡ countSteps F = omega (arith, ltb-false (suc (length ds)) (countSteps F) a) in
-      ends-count full (compare (copyA (m F) ds′) (copyB (m F) ds′))
-      (finish F x (ok .places) (h .now) (countPending (h .pending)) (h .counts) (inv .counts .fit) ds′ us more full refl
+      ends-count full (compare (copyA (own F) ds′) (copyB (m F) ds′))
+      (finish F x (ok .places) (ok .shared) (h .now) (countPending (h .pending)) (h .counts) (inv .counts .fit) ds′ us more full refl
       (inv .counts .below)))

@@ -52,6 +52,7 @@ Stocked F S (recordWrite i) rs = All (λ p. recordAt F S i ≡ p .what .content)
 -- what an accepted opening says of its form and record
 pub record Proper (F : Form) (r₀ : List ℕ) : Type 0 where
   pub places : 0 < m F
+  pub shared : F .shared ≤ 1
   pub versions : 0 < F .q
   pub bytes : 0 < F .n
   pub size : length r₀ ≡ F .n

@@ -100,10 +100,10 @@ module _ (F : Form) (x : Count) (r₀ : List ℕ) (ok : Proper F r₀) (story : 
       CountInv F x (story ++ (event σ r st b o ∷ [])) (suc (h .now)) (σ .page) (countPending (h .pending)) (h .counts)
       (set (σ .readings) r st) (set (h .reads) r rd) (h .countReads)
   counts-on o st rd b rel =
-      count-reader F x (ok .places) story (h .now) (σ .page) (countPending (h .pending)) (h .counts) (σ .readings)
+      count-reader F x (ok .places) (ok .shared) story (h .now) (σ .page) (countPending (h .pending)) (h .counts) (σ .readings)
       (h .reads) (h .countReads) (inv .counts) (event σ r st b o) (inv .time) r st rd (h .countReads) at-readings
       at-reads rel
-      (count-kept F x (ok .places) story (h .now) (σ .page) (countPending (h .pending)) (h .counts) (σ .readings)
+      (count-kept F x (ok .places) (ok .shared) story (h .now) (σ .page) (countPending (h .pending)) (h .counts) (σ .readings)
       (h .reads) (h .countReads) (inv .counts) (event σ r st b o) (inv .time))
 
   -- no attempt ends with it, and none has its point with it

@@ -115,11 +115,11 @@ module _ (F : Form) (x : Count) (r₀ S : List ℕ) (ok : Proper F r₀) (story 
       (λ b.
       writer-inv F x r₀ story (state resting) (past noWrite cs rs) inv page (aCount c 0) countWrite
       (begun c ∷ cs) rs (inv .marks) refl (writesCount refl refl)
-      (count-begin F x (ok .places) story now page cs readings reads xs (inv .counts) _ (inv .time) c
+      (count-begin F x (ok .places) (ok .shared) story now page cs readings reads xs (inv .counts) _ (inv .time) c
       (omega (
         arith,
         ltb-false (c .0) shown b,
-        c2-top F x (ok .places) story now page cs readings reads xs (inv .counts),
+        c2-top F x (ok .places) (ok .shared) story now page cs readings reads xs (inv .counts),
       ))
       (leb-false (product (F .bases)) (c .0) a))
       (record-same F r₀ (steps-some ok) story now page false rs readings reads buffers ys (inv .marks) (inv .records) _
@@ -148,7 +148,7 @@ module _ (F : Form) (x : Count) (r₀ S : List ℕ) (ok : Proper F r₀) (story 
       writer-inv F x r₀ story (state resting) (past noWrite cs rs) inv page
       (aRecord (record { 0 = suc shown }) i 0) (recordWrite i) cs
       (begun (placed (record { 0 = suc (length rs) }) (recordAt F S i)) ∷ rs) (inv .marks) refl (writesRecord (ap suc top) refl)
-      (count-same F x (ok .places) story now page false cs readings reads xs (inv .counts) _ (inv .time))
+      (count-same F x (ok .places) (ok .shared) story now page false cs readings reads xs (inv .counts) _ (inv .time))
       (record-begin F r₀ (steps-some ok) story now page rs readings reads buffers ys (inv .marks) _ (inv .time)
       (inv .records) (recordAt F S i)
       (record-length F S i (not-false (inRecords F S i) a))

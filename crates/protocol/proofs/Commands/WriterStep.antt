@@ -103,7 +103,7 @@ module _ (F : Form) (x : Count) (r₀ S : List ℕ) (ok : Proper F r₀) (story 
           writer-inv F x r₀ story (state (aCount (p .what) (length (p .steps)))) (past countWrite (p ∷ cs) rs)
           inv (countEvent p w .after .page) w so (on p (suc now) ∷ cs) rs (inv .marks) (length-set page _ _) writes
           (rw busy
-          (count-step F x (ok .places) story now page cs readings reads xs p (inv .counts) _ (inv .time)
+          (count-step F x (ok .places) (ok .shared) story now page cs readings reads xs p (inv .counts) _ (inv .time)
           (omega (arith, inv .pageSize)) t e))
           (rw quiet
           (record-untouched F r₀ (steps-some ok) story now page false rs readings reads buffers ys (inv .marks)
@@ -147,7 +147,7 @@ module _ (F : Form) (x : Count) (r₀ S : List ℕ) (ok : Proper F r₀) (story 
           (past (recordWrite i) cs (p ∷ rs)) inv (recordEvent p w .after .page) w so cs (on p (suc now) ∷ rs) (z .0)
           (length-set page _ _) writes
           (rw quiet
-          (count-untouched F x (ok .places) story now page false cs readings reads xs (inv .counts) _ (inv .time) _ _
+          (count-untouched F x (ok .places) (ok .shared) story now page false cs readings reads xs (inv .counts) _ (inv .time) _ _
           (record-within F (length (p .steps)) (inv .records .fit .0) .0)))
           (rw busy (z .1))
 

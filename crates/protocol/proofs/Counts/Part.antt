@@ -15,7 +15,7 @@ use Rattle.radix.specs.Digits.{product, value, digits}
 use Rattle.radix.specs.Copies.{compare, shown}
 use Rattle.radix.proofs.Theorems.RoundTrip.{value-digits, length-digits}
 use Rattle.protocol.specs.Lists.{All}
-use Rattle.protocol.specs.Form.{Form, m, countSteps}
+use Rattle.protocol.specs.Form.{Form, m, own, countSteps}
 use Rattle.protocol.specs.Layout.{c2, look, countOrder, countDigits, countReadOrder}
 use Rattle.protocol.specs.State.{Reading, idle, ofCount, ofRecord}
 use Rattle.protocol.specs.Step.{copyA, copyB}
@@ -37,7 +37,15 @@ use Rattle.protocol.specs.declared.Outcome.the-variants.{Nothing, Shown,
 use Rattle.protocol.proofs.Lists.Cases.{by-cond, all-map}
 use Rattle.protocol.proofs.Lists.Places.{look-is}
 use Rattle.protocol.proofs.Lists.Story.{snoc-old}
-use Rattle.protocol.proofs.Positions.Counts.{countImage, countRead, countDigitLow, countLow, count-apart, count-below}
+use Rattle.protocol.proofs.Positions.Counts.{
+  countImage,
+  positions,
+  second-position,
+  second-digit,
+  countRead,
+  count-apart,
+  count-below,
+}
 use Rattle.protocol.proofs.Items.Times.{Desc, desc-le, desc-now, first-le, first-more}
 use Rattle.protocol.proofs.Items.Writes.{
   on,
@@ -151,7 +159,7 @@ module _ (F : Form) (x : Count) where
           ends = omega arith;
         }
 
-  module _ (pos : 0 < m F) where
+  module _ (pos : 0 < m F) (one : F .shared ≤ 1) where
     sizePos : 0 < countSteps F
     sizePos = omega arith
 
@@ -193,10 +201,10 @@ module _ (F : Form) (x : Count) where
           → (x .0 < product (F .bases)) × All (λ p. p .what .0 < product (F .bases)) ps
           → Within (Wrote (lastOf ts) ps) (F .bases) (latest (writtenBefore (countSteps F) (firstOf ts)) x ps .0)
           (latest (begunBefore (lastOf ts)) x ps .0)
-          (copyA (m F) ds) (copyB (m F) ds) (compare (copyA (m F) ds) (copyB (m F) ds))
+          (copyA (own F) ds) (copyB (m F) ds) (compare (copyA (own F) ds) (copyB (m F) ds))
       finish ds ts h l t below =
           rw (t, ← cur-first num (countSteps F) x sizePos now b ps fit)
-          (spanned F (Wrote (suc now) ps) pos ds _ (cur num b x ps 0) (h .fell (omega arith) 0 (omega arith)) l
+          (spanned F (Wrote (suc now) ps) pos one ds _ (cur num b x ps 0) (h .fell (omega arith) 0 (omega arith)) l
           (cur-below b ps 0 (product (F .bases)) (below .0) (below .1)))
 
     module _ (story : List Event) (now : ℕ) (page : List ℕ) (b : Bool) (ps : List (Write Count)) (sts : List Reading)
@@ -260,9 +268,12 @@ module _ (F : Form) (x : Count) where
       pub c2-top : CountInv story now page false ps sts mine xs → value (F .bases) (look page (c2 F)) ≡ top num x ps
       c2-top inv =
           ap (value (F .bases))
-          (look-is page (m F) (digits (F .bases) (top num x ps)) (m F) (length-digits (F .bases) (top num x ps))
-          (λ k g. ap (λ i. getD page i 0) (sym (countLow F k g)) ∙ inv .holds k (omega arith)
-          ∙ countDigitLow F (top num x ps) k g))
+          (look-is page (c2 F) (digits (F .bases) (top num x ps))
+          (positions F .seconds ∙ sym (length-digits (F .bases) (top num x ps)))
+          (λ k g.
+          let l : k < m F = omega (arith, positions F .seconds) in
+          ap (λ i. getD page i 0) (sym (second-position F one k l)) ∙ inv .holds k (omega arith)
+          ∙ second-digit F (top num x ps) one k l))
           ∙ value-digits (F .bases) (top num x ps)
           (cur-below false ps 0 (product (F .bases)) (inv .below .0) (inv .below .1))
 

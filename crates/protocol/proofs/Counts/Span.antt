@@ -12,10 +12,10 @@ use Rattle.radix.specs.declared.Comparison.{Comparison}
 use Rattle.radix.specs.declared.Comparison.the-variants.{Equal, Parted, Crossed}
 use Rattle.radix.proofs.Theorems.Span.{Spans}
 use Rattle.radix.proofs.Theorems.Reads.{Reads, Up, Down, span-reads}
-use Rattle.protocol.specs.Form.{Form, m, countSteps}
+use Rattle.protocol.specs.Form.{Form, m, own, countSteps}
 use Rattle.protocol.specs.Step.{copyA, copyB}
 use Rattle.protocol.proofs.Lists.Places.{getD-reverse}
-use Rattle.protocol.proofs.Positions.Counts.{countImage, countDigitLow, countDigitHigh}
+use Rattle.protocol.proofs.Positions.Counts.{countImage, countDigitHigh, second-digit}
 use Rattle.protocol.proofs.Items.Seen.{Fell, seen, seen-known, seen-digit, seen-hi, seen-lo, seen-falls}
 
 -- both ends lie between lo and hi, P is known of the number of equal copies, and the copies are not crossed
@@ -34,42 +34,55 @@ module _ (P : ℕ → Type 0) where
   widen bs lo lo′ mid hi hi′ a b (Parted p) h g x s = (le-trans h (s .from-lo), s .low-high, le-trans (s .to-hi) g)
   widen bs lo lo′ mid hi hi′ a b Crossed h g x s = s
 
-module _ (F : Form) (P : ℕ → Type 0) (pos : 0 < m F) where
-  pub spanned :
-      (ds : List ℕ) (lo hi : ℕ) → Fell P (countImage F) 0 ds lo hi → length ds ≡ countSteps F → hi < product (F .bases) →
-      Within P (F .bases) lo hi (copyA (m F) ds) (copyB (m F) ds) (compare (copyA (m F) ds) (copyB (m F) ds))
-  spanned ds lo hi f size below =
-      widen P (F .bases) (seen f (m F + (m F - 1))) lo (seen f (m F)) (seen f 0) hi (copyA (m F) ds) (copyB (m F) ds)
-      (compare (copyA (m F) ds) (copyB (m F) ds)) (seen-lo f (m F + (m F - 1))) (seen-hi f 0)
-      (seen-known f (m F) (omega arith))
-      (span-reads (F .bases) (copyA (m F) ds) (copyB (m F) ds) (λ k. seen f (m F + (m F - suc k))) (λ k. seen f k)
-      (seen f (m F)) readA upA readB downB pos (omega (arith, seen-hi f 0)))
-    where
-      readA : Reads (F .bases) (copyA (m F) ds) (λ k. seen f (m F + (m F - suc k)))
+module _ (F : Form) (P : ℕ → Type 0) (pos : 0 < m F) (one : F .shared ≤ 1) where
+  -- The number seen at place k of each copy. A shared place is one index, and so one number: that seen between the
+  -- others, which ends both lists.
+  module _ {ds : List ℕ} {lo hi : ℕ} (f : Fell P (countImage F) 0 ds lo hi) where
+    abbrev seenA : ℕ → ℕ
+    seenA k = seen f (own F + (m F - suc k))
+
+    abbrev seenB : ℕ → ℕ
+    seenB k = seen f k
+
+    abbrev mid : ℕ
+    mid = seen f (own F)
+
+    upA : Up (F .bases) seenA mid
+    upA = record {
+      step = λ k h. seen-falls f (own F + (m F - suc (suc k))) (own F + (m F - suc k)) (omega arith);
+      end = λ k h. seen-falls f (own F) (own F + (m F - suc k)) (omega arith);
+    }
+
+    downB : Down (F .bases) seenB mid
+    downB = record {
+      step = λ k h. seen-falls f k (suc k) (omega arith);
+      end = λ k h. seen-falls f k (own F) (omega arith);
+    }
+
+    module _ (size : length ds ≡ countSteps F) where
+      readA : Reads (F .bases) (copyA (own F) ds) seenA
       readA = record {
-        size = length-reverse (drop (m F) ds) ∙ length-drop (m F) ds ∙ omega arith;
+        size = length-reverse (drop (own F) ds) ∙ length-drop (own F) ds ∙ omega arith;
         each = λ k h.
-            getD-reverse (drop (m F) ds) 0 k (m F - suc k) (omega (arith, length-drop (m F) ds))
-            ∙ getD-drop (m F) ds (m F - suc k) 0
-            ∙ seen-digit f (m F + (m F - suc k)) (omega arith)
-            ∙ rw zero-add (countDigitHigh F (seen f (m F + (m F - suc k))) (m F - suc k) k (omega arith));
+            getD-reverse (drop (own F) ds) 0 k (m F - suc k) (omega (arith, length-drop (own F) ds))
+            ∙ getD-drop (own F) ds (m F - suc k) 0
+            ∙ seen-digit f (own F + (m F - suc k)) (omega arith)
+            ∙ rw zero-add (countDigitHigh F (seenA k) (own F + (m F - suc k)) k (omega arith) (omega arith));
       }
 
-      upA : Up (F .bases) (λ k. seen f (m F + (m F - suc k))) (seen f (m F))
-      upA = record {
-        step = λ k h. seen-falls f (m F + (m F - suc (suc k))) (m F + (m F - suc k)) (omega arith);
-        end = λ k h. seen-falls f (m F) (m F + (m F - suc k)) (omega arith);
-      }
-
-      readB : Reads (F .bases) (copyB (m F) ds) (λ k. seen f k)
+      readB : Reads (F .bases) (copyB (m F) ds) seenB
       readB = record {
         size = length-take (m F) ds ∙ omega arith;
         each = λ k h.
-            getD-take (m F) ds k 0 h ∙ seen-digit f k (omega arith) ∙ rw zero-add (countDigitLow F (seen f k) k h);
+            getD-take (m F) ds k 0 h ∙ seen-digit f k (omega arith) ∙ rw zero-add (second-digit F (seenB k) one k h);
       }
 
-      downB : Down (F .bases) (λ k. seen f k) (seen f (m F))
-      downB = record {
-        step = λ k h. seen-falls f k (suc k) (omega arith);
-        end = λ k h. seen-falls f k (m F) (omega arith);
-      }
+  pub spanned :
+      (ds : List ℕ) (lo hi : ℕ) → Fell P (countImage F) 0 ds lo hi → length ds ≡ countSteps F → hi < product (F .bases) →
+      Within P (F .bases) lo hi (copyA (own F) ds) (copyB (m F) ds) (compare (copyA (own F) ds) (copyB (m F) ds))
+  spanned ds lo hi f size below =
+      widen P (F .bases) (seenA f 0) lo (mid f) (seenB f 0) hi (copyA (own F) ds) (copyB (m F) ds)
+      (compare (copyA (own F) ds) (copyB (m F) ds)) (seen-lo f (own F + (m F - 1))) (seen-hi f 0)
+      (seen-known f (own F) (omega arith))
+      (span-reads (F .bases) (copyA (own F) ds) (copyB (m F) ds) (seenA f) (seenB f) (mid f) (readA f size) (upA f)
+      (readB f size) (downB f) pos (omega (arith, seen-hi f 0)))

@@ -10,6 +10,7 @@ use Rattle.protocol.specs.Form.{Form, goodForm, countSteps, recordSteps}
 use Rattle.protocol.specs.Layout.{
   countOrder,
   countDigits,
+  countBases,
   countReadOrder,
   recordOrder,
   recordDigits,
@@ -110,7 +111,7 @@ over S room given = record { records = S; run = record { given = given; log = re
 
 unfoldable pub ran : Form → Count → List ℕ → List RunOver → List Ran
 unfolding executes openPage run runs goodForm goodLengths stored storedWriting storedReading load loadWriting
-    loadReading validMemory allowed allowedPage allowedWriting allowedReading
+    loadReading validMemory allowed allowedPage allowedWriting allowedReading countBases
 ran F c r xs = runs F (openPage F (lent F) c r .memory) xs
 
 unfoldable pub told : Form → List RunOver → List Ran → History

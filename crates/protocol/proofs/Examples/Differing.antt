@@ -21,7 +21,7 @@ use Rattle.protocol.proofs.Examples.Common.{
 
 -- two count places of base 10, one version place, records of two bytes
 abbrev pub lopsided : Form
-lopsided = record { bases = 10 ∷ 10 ∷ []; q = 1; base = 10; n = 2; readers = 1 }
+lopsided = record { bases = 10 ∷ 10 ∷ []; shared = 0; q = 1; base = 10; n = 2; readers = 1 }
 
 -- with these copies of the count, these versions
 abbrev pub holding : (a₁ a₀ b₁ b₀ : ℕ) (v w : ℕ) → State

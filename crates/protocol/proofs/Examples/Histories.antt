@@ -56,7 +56,7 @@ printed-history = refl
 -- RETRIES: a count write or read has two steps here, a record write or attempt three
 
 abbrev pub brief : Form
-brief = record { bases = 10 ∷ []; q = 1; base = 10; n = 1; readers = 2 }
+brief = record { bases = 10 ∷ []; shared = 0; q = 1; base = 10; n = 1; readers = 2 }
 
 -- reader 0 is overtaken twice by one write and accepts at its third attempt of four, with 18; reader 1 cancels a count
 -- read with 14; a second write stands still at 19, so that reader 1 goes on to a second attempt with 24, and reader 0

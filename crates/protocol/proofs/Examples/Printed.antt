@@ -24,7 +24,7 @@ use Rattle.protocol.proofs.Examples.Common.{
 -- its header, and its commands as bytes
 
 abbrev pub small : Form
-small = record { bases = 0x000A ∷ []; q = 1; base = 0x000A; n = 2; readers = 1 }
+small = record { bases = 0x000A ∷ []; shared = 0; q = 1; base = 0x000A; n = 2; readers = 1 }
 
 abbrev pub given : List ℕ
 given =

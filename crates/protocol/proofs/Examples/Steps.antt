@@ -26,7 +26,7 @@ use Rattle.protocol.proofs.Examples.Common.{
 
 -- c1, c2, v1, record, v2: two bytes each; base b but for the last count place
 abbrev pub twos : (b last : ℕ) → Form
-twos b last = record { bases = b ∷ last ∷ []; q = 2; base = b; n = 2; readers = 1 }
+twos b last = record { bases = b ∷ last ∷ []; shared = 0; q = 2; base = b; n = 2; readers = 1 }
 
 -- the page, with nothing going on
 abbrev pub still : List ℕ → State

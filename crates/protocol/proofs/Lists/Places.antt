@@ -2,7 +2,6 @@
 use mathlib.Core.Path.{_≡_, refl, ap, ap₂, _∙_}
 use mathlib.Core.List.{List, [], _∷_, _++_, reverse, reverse-cons}
 use Prim.Native.Nat.{ℕ, zero, suc, _+_, _-_, _≤_, _<_}
-use native.Mathlib.Nat.{add-zero}
 use native.Mathlib.Omega.{arith}
 use lib.ListN.{length, getD, replicate, length-reverse, List·getD-append}
 use lib.Seq.{getD-append-add, getD-at}
@@ -40,13 +39,12 @@ module _ {A : Type 0} where
   getD-all (suc n) zero a = refl
   getD-all (suc n) (suc r) a = getD-all n r a
 
--- what a page shows at a range of positions
+-- what a page shows at positions
 pub look-is :
-    (page : List ℕ) (a : ℕ) (ds : List ℕ) (n : ℕ) → length ds ≡ n →
-    ((k : ℕ) → k < n → getD page (a + k) 0 ≡ getD ds k 0) → look page (range a n) ≡ ds
-look-is page a [] zero e h = refl
-look-is page a [] (suc n) e h = absurd (omega arith)
-look-is page a (d ∷ ds) zero e h = absurd (omega arith)
-look-is page a (d ∷ ds) (suc n) e h =
-    ap₂ {C = List ℕ} _∷_ (rw add-zero at (h 0 (omega arith)))
-    (look-is page (suc a) ds n (omega arith) (λ k g. ap (λ i. getD page i 0) (omega arith) ∙ h (suc k) (omega arith)))
+    (page ps ds : List ℕ) → length ps ≡ length ds →
+    ((k : ℕ) → k < length ps → getD page (getD ps k 0) 0 ≡ getD ds k 0) → look page ps ≡ ds
+look-is page [] [] e h = refl
+look-is page [] (d ∷ ds) e h = absurd (omega arith)
+look-is page (p ∷ ps) [] e h = absurd (omega arith)
+look-is page (p ∷ ps) (d ∷ ds) e h =
+    ap₂ {C = List ℕ} _∷_ (h 0 (omega arith)) (look-is page ps ds (omega arith) (λ k g. h (suc k) (omega arith)))

@@ -8,7 +8,7 @@ use lib.Dec.{eqb, ltb}
 use lib.ListN.{length}
 use borrow.Author.Tests.{eqb-true, ltb-true}
 use Rattle.protocol.specs.Lists.{every}
-use Rattle.protocol.specs.Form.{Form, m, countSteps, recordSteps, goodForm}
+use Rattle.protocol.specs.Form.{Form, m, own, countSteps, recordSteps, goodForm}
 use Rattle.protocol.specs.State.{Writing, resting, aCount, aRecord, Reading, idle, ofCount, ofRecord}
 use Rattle.protocol.specs.Allowed.{allowedReading, versionDigits}
 use Rattle.protocol.specs.Memory.{storedWriting, storedReading}
@@ -75,7 +75,7 @@ module _ (F : Form) (good : goodForm F ≡ true) where
       let range : InRange F = in-range F good in
       let (few, digits) = both (ltb (length ds) (countSteps F)) _ h in
       let short : length ds < countSteps F = ltb-true _ _ few in
-      ap ofCount (load-storedDigits (m F) ds (length ds - m F) (range .places .1) (omega arith) refl)
+      ap ofCount (load-storedDigits (m F) (own F) ds (length ds - m F) (omega (arith, range .places)) (omega arith) refl)
   load-storedReading (ofRecord a f s ds) h =
       let range : InRange F = in-range F good in
       let (b, digits) = both _ (every (λ d. ltb d (F .base)) ds) h in
@@ -84,7 +84,7 @@ module _ (F : Form) (good : goodForm F ≡ true) where
       let e : length ds ≡ versionDigits F s = eqb-true _ _ gathered in
       let short : s < recordSteps F = ltb-true _ _ few in
       ap (ofRecord a f s)
-      (rw (← e) (load-storedDigits (F .q) ds (length ds - F .q) (omega arith) (omega arith) refl))
+      (rw (← e) (load-storedDigits (F .q) (F .q) ds (length ds - F .q) (omega arith) (omega arith) refl))
 
   pub load-storedReadings : (l : List Reading) → every (allowedReading F) l ≡ true
       → map (loadReading F) (map (storedReading F) l) ≡ l

@@ -12,7 +12,7 @@ use Rattle.radix.specs.Digits.{value}
 use Rattle.radix.specs.Copies.{compare}
 use Rattle.radix.specs.declared.Comparison.{Comparison}
 use Rattle.radix.specs.declared.Comparison.the-variants.{Equal, Parted, Crossed}
-use Rattle.protocol.specs.Form.{Form, m, versionBases, between, countSteps, recordSteps}
+use Rattle.protocol.specs.Form.{Form, m, own, versionBases, between, countSteps, recordSteps}
 use Rattle.protocol.specs.Layout.{attemptOrder}
 use Rattle.protocol.specs.State.{Reading, idle, ofCount, ofRecord}
 use Rattle.protocol.specs.Outcome.{refusalNumber}
@@ -43,7 +43,7 @@ pub record Buffered (F : Form) (page : List ℕ) (r : ℕ) (x : Reading) (b b′
   -- a step that gathers byte j puts it at j, and changes nothing else
   pub byte :
       (a f j : ℕ) (ds : List ℕ) → x ≡ ofRecord a f (F .q + j) ds → j < F .n →
-      b′ ≡ set b j (getD page (m F + m F + F .q + j) 0)
+      b′ ≡ set b j (getD page (countSteps F + F .q + j) 0)
   -- one that gives up leaves zeros
   pub gave-up : (i k : ℕ) → o ≡ GaveUp i k → b′ ≡ replicate (F .n) 0
 
@@ -115,7 +115,7 @@ module _ (F : Form) (page : List ℕ) (r : ℕ) (b : List ℕ) where
           version = λ a f s′ ds e h not-yet. let at : s ≡ s′ = cc in absurd (outside s′ at h low high);
           byte = λ a f j ds e h.
               let at : s ≡ F .q + j = cc in
-              let place : nextPosition F here ≡ m F + m F + F .q + j =
+              let place : nextPosition F here ≡ countSteps F + F .q + j =
               ap (λ i. getD (attemptOrder F) i 0) at ∙ readByte F j h ∙ recordLow F (F .q + j) (omega arith)
               ∙ omega arith in
               let index : s - F .q ≡ j = omega arith in
@@ -135,8 +135,8 @@ module _ (F : Form) (page : List ℕ) (r : ℕ) (b : List ℕ) where
       by-cond (On (ofCount ds)) (ltb (suc (length ds)) (countSteps F))
       (λ t. left (ofCount ds) _ (λ a f j ds e h. never (cc)) (λ i k e. never (cc)))
       (λ t.
-      count-ends ds (copyA (m F) (d ∷ ds)) (copyB (m F) (d ∷ ds))
-      (compare (copyA (m F) (d ∷ ds)) (copyB (m F) (d ∷ ds))))
+      count-ends ds (copyA (own F) (d ∷ ds)) (copyB (m F) (d ∷ ds))
+      (compare (copyA (own F) (d ∷ ds)) (copyB (m F) (d ∷ ds))))
   buffered (ofRecord a f s ds) =
       let d = getD page (nextPosition F (ofRecord a f s ds)) 0 in
       by-cond (On (ofRecord a f s ds)) (leb (F .q) s && ltb s (F .q + F .n))

@@ -1,80 +1,63 @@
 -- The two copies of a finished count read, in the order in which they were read: c1 left to right is a, c2 right to
 -- left is b. Their digits are valid, so that the order of the copies is the order of their values.
-use mathlib.Core.Path.{_≡_, refl, sym, ap, _∙_, subst}
-use mathlib.Core.List.{List, _∷_, _++_, reverse, reverse-cons, reverse-append, reverse-reverse}
-use mathlib.Core.Bool.{true}
-use Prim.Native.Nat.{ℕ, suc, _+_, _-_, _<_}
-use native.Mathlib.Nat.{add-zero}
+use mathlib.Core.Path.{_≡_, refl, sym, ap, _∙_}
+use mathlib.Core.List.{List, _∷_, _++_, reverse, reverse-append, reverse-reverse}
+use Prim.Native.Nat.{ℕ, suc, _+_, _-_}
 use native.Mathlib.Omega.{arith}
-use lib.ListN.{length, take, drop, getD, length-append, length-reverse, length-drop, take-append-drop}
-use lib.Seq.{take-at, drop-at, drop-cons}
-use borrow.Author.Tests.{lt-ltb}
-use Rattle.radix.specs.Digits.{valid, Valid, none, more}
-use Rattle.radix.proofs.Theorems.RoundTrip.{valid-sound}
-use Rattle.radix.proofs.Theorems.Prefix.{valid-take, valid-drop}
-use Rattle.protocol.specs.Form.{Form, m, countSteps}
+use lib.ListN.{length, take, drop, getD, length-reverse, length-drop, take-append-drop}
+use lib.Seq.{take-at, drop-at}
+use Rattle.radix.specs.Digits.{Valid}
+use Rattle.protocol.specs.Form.{Form, m, own, countSteps}
+use Rattle.protocol.specs.Layout.{c2, countOrder}
 use Rattle.protocol.specs.State.{ofCount}
 use Rattle.protocol.specs.Step.{nextPosition, copyA, copyB}
-use Rattle.protocol.proofs.Lists.Cases.{together}
-use Rattle.protocol.proofs.Positions.Steps.{count-low, count-read}
+use Rattle.protocol.proofs.InRange.{InRange}
+use Rattle.protocol.proofs.Positions.Counts.{countRead, second-position}
 use Rattle.protocol.proofs.Allowed.Means.{GoodPage, GoodReading}
-use Rattle.protocol.proofs.Allowed.Reader.{order, order-below}
+use Rattle.protocol.proofs.Allowed.Reader.{Fits, fits}
+use Rattle.protocol.proofs.Allowed.Copies.{valid-a as copy-a, valid-b as copy-b}
 
--- of digits kept latest first
-module _ (w : ℕ) (l : List ℕ) (size : length l ≡ w + w) where
-  reversed : reverse l ≡ reverse (drop w l) ++ reverse (take w l)
-  reversed = ap reverse (sym (take-append-drop w l)) ∙ reverse-append (take w l) (drop w l)
+-- of digits kept latest first: w of the first copy, v own ones of the second
+module _ (w v : ℕ) (l : List ℕ) (size : length l ≡ w + v) where
+  reversed : (i : ℕ) → reverse l ≡ reverse (drop i l) ++ reverse (take i l)
+  reversed i = ap reverse (sym (take-append-drop i l)) ∙ reverse-append (take i l) (drop i l)
 
-  late : length (reverse (drop w l)) ≡ w
-  late = length-reverse (drop w l) ∙ length-drop w l ∙ omega arith
+  late : (i j : ℕ) → i + j ≡ w + v → length (reverse (drop i l)) ≡ j
+  late i j h = length-reverse (drop i l) ∙ length-drop i l ∙ omega arith
 
-  pub is-copyA : copyA w l ≡ take w (reverse l)
-  is-copyA = sym (ap (take w) reversed ∙ take-at (reverse (drop w l)) (reverse (take w l)) w late)
+  pub is-copyA : copyA v l ≡ take w (reverse l)
+  is-copyA =
+      sym (ap (take w) (reversed v) ∙ take-at (reverse (drop v l)) (reverse (take v l)) w (late v w (omega arith)))
 
-  pub is-copyB : copyB w l ≡ reverse (drop w (reverse l))
+  pub is-copyB : copyB w l ≡ reverse (drop v (reverse l))
   is-copyB =
       sym
-      (ap (λ (x : List ℕ). reverse (drop w x)) reversed
-      ∙ ap reverse (drop-at (reverse (drop w l)) (reverse (take w l)) w late)
+      (ap (λ (x : List ℕ). reverse (drop v x)) (reversed w)
+      ∙ ap reverse (drop-at (reverse (drop w l)) (reverse (take w l)) v (late w v refl))
       ∙ reverse-reverse (take w l))
 
-valid-append : {bs ds cs es : List ℕ} → Valid bs ds → Valid cs es → Valid (bs ++ cs) (ds ++ es)
-valid-append none w = w
-valid-append (more h v) w = more h (valid-append v w)
-
-valid-reverse : {bs ds : List ℕ} → Valid bs ds → Valid (reverse bs) (reverse ds)
-valid-reverse none = none
-valid-reverse (more {b} {d} {bs} {ds} h v) =
-    rw (reverse-cons b bs, reverse-cons d ds) (valid-append (valid-reverse v) (more h none))
-
 -- the last step
-module _ (F : Form) (page : List ℕ) (good : GoodPage F page) (ds : List ℕ) (reading : GoodReading F (ofCount ds))
-    (last : suc (length ds) ≡ countSteps F) where
+module _ (F : Form) (range : InRange F) (page : List ℕ) (good : GoodPage F page) (ds : List ℕ)
+    (reading : GoodReading F (ofCount ds)) (last : suc (length ds) ≡ countSteps F) where
   -- it reads the leftmost digit of c2
-  pub last-position : nextPosition F (ofCount ds) ≡ m F
-  last-position =
-      count-read F (length ds) 0 (omega arith) ∙ count-low F 0 (omega arith) ∙ omega arith
+  abbrev leftmost : ℕ
+  leftmost = getD (c2 F) 0 0
+
+  first-index : getD (countOrder F) 0 0 ≡ leftmost
+  first-index = second-position F (range .shared) 0 (range .places .0)
+
+  pub last-position : nextPosition F (ofCount ds) ≡ leftmost
+  last-position = countRead F (length ds) 0 (omega arith) ∙ first-index
 
   abbrev gathered : List ℕ
-  gathered = getD page (m F) 0 ∷ ds
+  gathered = getD page leftmost 0 ∷ ds
 
-  all-valid : Valid (order F) gathered
-  all-valid =
-      let inside : 0 < length (order F) = omega (arith, length-append (F .bases) (reverse (F .bases))) in
-      let head : getD page (m F) 0 < getD (order F) 0 0 =
-      rw (count-low F 0 (omega arith), add-zero (m F)) at (order-below F page good 0 (omega arith)) in
-      let one : countSteps F - length ds ≡ 1 = omega arith in
-      let rest : valid (drop 1 (order F)) ds ≡ true =
-      subst (λ (i : ℕ). valid (drop i (order F)) ds ≡ true) one (reading .1) in
-      valid-sound (order F) gathered
-      (subst (λ (bs : List ℕ). valid bs gathered ≡ true) (sym (drop-cons (order F) 0 0 inside))
-      (together (lt-ltb (getD page (m F) 0) (getD (order F) 0 0) head) rest))
+  -- what was read is below its base
+  low : Fits F (ofCount ds) (getD page leftmost 0)
+  low = rw last-position at (fits F page good (ofCount ds) reading)
 
   pub valid-b : Valid (F .bases) (copyB (m F) gathered)
-  valid-b = rw (take-at (F .bases) (reverse (F .bases)) (m F) refl) at (valid-take (m F) all-valid)
+  valid-b = copy-b F (getD page leftmost 0) ds reading low (omega arith) (range .shared)
 
-  pub valid-a : Valid (F .bases) (copyA (m F) gathered)
-  valid-a =
-      let second : Valid (reverse (F .bases)) (drop (m F) gathered) =
-      rw (drop-at (F .bases) (reverse (F .bases)) (m F) refl) at (valid-drop (m F) all-valid) in
-      rw (reverse-reverse (F .bases)) at (valid-reverse second)
+  pub valid-a : Valid (F .bases) (copyA (own F) gathered)
+  valid-a = copy-a F (getD page leftmost 0) ds reading low (omega arith)

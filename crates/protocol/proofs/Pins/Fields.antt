@@ -1,7 +1,7 @@
 -- Refusal 3, given exactly if `validMemory` fails, is given exactly if a field is not as document 01 lists it.
 use mathlib.Core.Path.{_≡_, refl, sym, ap, _∙_}
 use mathlib.Core.Logic.{_↔_}
-use mathlib.Core.List.{List, [], _∷_, _++_, map, reverse}
+use mathlib.Core.List.{List, [], _∷_, map}
 use mathlib.Core.Bool.{Bool, true}
 use Prim.Native.Nat.{ℕ, suc, _*_, _-_}
 use native.Mathlib.Omega.{arith}
@@ -11,8 +11,8 @@ use borrow.Author.Tests.{eqb-true, eq-eqb, ltb-true, lt-ltb, leb-true, le-leb}
 use Rattle.radix.specs.Digits.{valid}
 use Rattle.radix.proofs.Theorems.RoundTrip.{valid-sound, valid-complete}
 use Rattle.protocol.specs.Lists.{All, every}
-use Rattle.protocol.specs.Form.{Form, m, versionBases, countSteps, recordSteps, goodForm}
-use Rattle.protocol.specs.Layout.{c1, c2, v1, v2, look}
+use Rattle.protocol.specs.Form.{Form, m, own, versionBases, countSteps, recordSteps, goodForm}
+use Rattle.protocol.specs.Layout.{c1, c2, v1, v2, countBases, look}
 use Rattle.protocol.specs.State.{
   Writing,
   resting,
@@ -60,14 +60,14 @@ use Rattle.protocol.proofs.Pins.Sixteen.{
 -- THE READERS
 module _ (F : Form) (range : InRange F) where
   reading-ok : (y : Reading) → allowedReading F y ≡ true → ReaderOk F (storedReading F y)
-  unfolding allowedReading storedReading
+  unfolding allowedReading storedReading countBases
   reading-ok idle h = ReaderOk.kind0 refl refl refl refl (all-replicate (λ d. d ≡ 0) 16 0 refl)
   reading-ok (ofCount ds) h =
       let (few, low) = both (ltb (length ds) (countSteps F)) _ h in
       let few = ltb-true (length ds) (countSteps F) few in
       ReaderOk.kind1 refl refl refl few
-      (stored-fits (F .bases) (m F) (length ds) refl (range .places .1) (omega arith) ds refl
-      (valid-sound (drop (countSteps F - length ds) (F .bases ++ reverse (F .bases))) ds low))
+      (stored-fits (F .bases) (m F) (own F) (length ds) refl (omega arith) (range .places .1) (omega arith) ds refl
+      (valid-sound (drop (countSteps F - length ds) (countBases F)) ds low))
   reading-ok (ofRecord a f s ds) h =
       let (left, few, size, low) =
       four (ltb f a) (ltb s (recordSteps F)) (eqb (length ds) (versionDigits F s)) (every (λ d. ltb d (F .base)) ds) h
@@ -76,13 +76,13 @@ module _ (F : Form) (range : InRange F) where
       let size = eqb-true (length ds) (versionDigits F s) size in
       ReaderOk.kind2 refl (ltb-true f a left) few
       (rw (← size)
-      (stored-fits (versionBases F) (F .q) (length ds) (length-versionBases F) (omega (arith, range .versions))
-      (omega arith) ds refl
+      (stored-fits (versionBases F) (F .q) (F .q) (length ds) (length-versionBases F) (omega arith)
+      (omega (arith, range .versions)) (omega arith) ds refl
       (rw (one-base (F .q) (F .base) (length ds) (omega arith)) (every-valid (F .base) ds low))))
 
   reader-stored : (x : Reader) → length (x .digits) ≡ 16 → ReaderOk F x
       → (y : Reading) × (allowedReading F y ≡ true) × (storedReading F y ≡ x)
-  unfolding allowedReading storedReading
+  unfolding allowedReading storedReading countBases
   reader-stored x long (ReaderOk.kind0 k a f s z) = (
     idle,
     refl,
@@ -98,7 +98,8 @@ module _ (F : Form) (range : InRange F) where
   )
   reader-stored x long (ReaderOk.kind1 k a f s d) =
       let (ds, size, v, e) =
-      fits-stored (F .bases) (m F) (x .stage .steps) refl (range .places .1) (omega arith) (x .digits) long d
+      fits-stored (F .bases) (m F) (own F) (x .stage .steps) refl (omega arith) (range .places .1) (omega arith) (x .digits)
+      long d
       in (
         ofCount ds,
         rw size (together (lt-ltb (x .stage .steps) (countSteps F) s) (valid-complete v)),
@@ -109,12 +110,12 @@ module _ (F : Form) (range : InRange F) where
             finished = sym f i;
             steps = size i;
           };
-          digits = (ap (λ g. storedDigits (m F) (g - m F) ds) size ∙ e) i;
+          digits = (ap (λ g. storedDigits (own F) (g - m F) ds) size ∙ e) i;
         },
       )
   reader-stored x long (ReaderOk.kind2 k f s d) =
       let (ds, size, v, e) =
-      fits-stored (versionBases F) (F .q) (versionDigits F (x .stage .steps)) (length-versionBases F)
+      fits-stored (versionBases F) (F .q) (F .q) (versionDigits F (x .stage .steps)) (length-versionBases F) (omega arith)
       (omega (arith, range .versions)) (omega arith) (x .digits) long d
       in
       let v = rw (one-base (F .q) (F .base) (versionDigits F (x .stage .steps)) (omega arith)) at v in (

@@ -1,4 +1,4 @@
--- A form is good exactly if document 01's six ranges hold of its numbers.
+-- A form is good exactly if document 01's six ranges hold of its numbers, and its layout is plain or folded.
 use mathlib.Core.Path.{_≡_, refl}
 use mathlib.Core.Logic.{_↔_}
 use mathlib.Core.List.{List, [], _∷_}
@@ -15,6 +15,7 @@ use Rattle.protocol.proofs.InRange.{in-range}
 pub record Ranges (F : Form) : Type 0 where
   pub places : (1 ≤ m F) × (m F ≤ 8)
   pub bases : All (λ b. (2 ≤ b) × (b ≤ 256)) (F .bases)
+  pub layout : F .shared ≤ 1
   pub versions : (1 ≤ F .q) × (F .q ≤ 4)
   pub base : (2 ≤ F .base) × (F .base ≤ 256)
   pub bytes : (1 ≤ F .n) × (F .n ≤ 256)
@@ -34,8 +35,10 @@ ranges-good F h =
     (together
     (together
     (together
+    (together
     (together (le-leb 1 (m F) (h .places .0))
     (together (le-leb (m F) 8 (h .places .1)) (all-good (F .bases) (h .bases))))
+    (le-leb (F .shared) 1 (h .layout)))
     (is-between 1 4 (F .q) (h .versions)))
     (is-between 2 256 (F .base) (h .base)))
     (is-between 1 256 (F .n) (h .bytes)))
@@ -47,6 +50,7 @@ good-ranges F good =
     record {
       places = r .places;
       bases = r .bases;
+      layout = r .shared;
       versions = r .versions;
       base = r .base;
       bytes = r .bytes;

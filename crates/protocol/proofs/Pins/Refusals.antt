@@ -27,7 +27,7 @@ use Rattle.radix.specs.declared.Comparison.the-variants.{Equal, Parted, Crossed
 use Rattle.radix.proofs.Theorems.RoundTrip.{valid-sound, value-lt}
 use Rattle.radix.proofs.Theorems.Order.{Means, compare-means}
 use Rattle.protocol.specs.Lists.{All}
-use Rattle.protocol.specs.Form.{Form, m, versionBases, countSteps, recordSteps, goodForm}
+use Rattle.protocol.specs.Form.{Form, m, own, versionBases, countSteps, recordSteps, goodForm}
 use Rattle.protocol.specs.Layout.{c2, v1, look}
 use Rattle.protocol.specs.State.{
   Writing,
@@ -85,8 +85,7 @@ use Rattle.protocol.specs.declared.Refusal.the-variants.{
 }
 use Rattle.protocol.proofs.Lists.Cases.{by-cond, all-getD}
 use Rattle.protocol.proofs.InRange.{InRange, in-range}
-use Rattle.protocol.proofs.Positions.Records.{length-versionBases}
-use Rattle.protocol.proofs.Allowed.Means.{GoodPage, GoodReading, Good, means, below-valid}
+use Rattle.protocol.proofs.Allowed.Means.{GoodPage, GoodReading, Good, means, valid-v1}
 use Rattle.protocol.proofs.Pins.Table.{crosses, applies, order, Verdict, fine, gives, firstOf, verdictOf}
 use Rattle.protocol.proofs.Pins.Copies.{is-copyA, is-copyB, last-position, valid-a, valid-b}
 
@@ -148,7 +147,7 @@ module _ (F : Form) (σ : State) (r : ℕ) (buffer a b : List ℕ) where
   count-end (Parted p) h = rw (le-ltb (value (F .bases) b) (value (F .bases) a) (omega arith))
   count-end Crossed h = rw (lt-ltb (value (F .bases) b) (value (F .bases) a) h)
 
-module _ (F : Form) (σ : State) (r : ℕ) (page : GoodPage F (σ .page)) where
+module _ (F : Form) (range : InRange F) (σ : State) (r : ℕ) (page : GoodPage F (σ .page)) where
   abbrev digit : Reading → ℕ
   digit x = getD (σ .page) (nextPosition F x) 0
 
@@ -177,26 +176,26 @@ module _ (F : Form) (σ : State) (r : ℕ) (page : GoodPage F (σ .page)) where
       (ltb (suc (length ds)) (countSteps F))
       (λ t.
       let more = ltb-true (suc (length ds)) (countSteps F) t in
-      rw (ne-eqb (suc (length ds)) (m F + m F) (λ e. omega arith)))
+      rw (ne-eqb (suc (length ds)) (countSteps F) (λ e. omega arith)))
       (λ t.
       let least = ltb-false (suc (length ds)) (countSteps F) t in
       let last : suc (length ds) ≡ countSteps F = omega arith in
-      let l = getD (σ .page) (m F) 0 ∷ ds in
+      let l = getD (σ .page) (getD (c2 F) 0 0) 0 ∷ ds in
       rw (
-        last-position F (σ .page) page ds g last,
-        eq-eqb (suc (length ds)) (m F + m F) last,
-        ← is-copyA (m F) l last,
-        ← is-copyB (m F) l last,
+        last-position F range (σ .page) page ds g last,
+        eq-eqb (suc (length ds)) (countSteps F) last,
+        ← is-copyA (m F) (own F) l last,
+        ← is-copyB (m F) (own F) l last,
       )
-      (count-end F σ r buffer (copyA (m F) l) (copyB (m F) l) (compare (copyA (m F) l) (copyB (m F) l))
-      (compare-means (valid-a F (σ .page) page ds g last) (valid-b F (σ .page) page ds g last))))
+      (count-end F σ r buffer (copyA (own F) l) (copyB (m F) l) (compare (copyA (own F) l) (copyB (m F) l))
+      (compare-means (valid-a F range (σ .page) page ds g last) (valid-b F range (σ .page) page ds g last))))
 
 module _ (F : Form) (S : List ℕ) (σ : State) (range : InRange F) (good : Good F S σ) where
   version-below : value (versionBases F) (look (σ .page) (v1 F)) < product (versionBases F)
   version-below =
       value-lt
       (valid-sound (versionBases F) (look (σ .page) (v1 F))
-      (below-valid (versionBases F) (σ .page) (m F + m F) (F .q) (length-versionBases F) (good .page .before)))
+      (valid-v1 F (σ .page) (good .page)))
 
   no-reader : (r : ℕ) → leb (F .readers) r ≡ leb (F .readers) r || false || false
   no-reader r = or-false (leb (F .readers) r) ∙ or-false (leb (F .readers) r || false)
@@ -229,7 +228,7 @@ module _ (F : Form) (S : List ℕ) (σ : State) (range : InRange F) (good : Good
   verdict (ReaderStep r) =
       check (leb (F .readers) r) _ NoSuch _ _ (no-reader r)
       (λ n.
-      reader-step F σ r (good .page) (readingOf σ r) (bufferOf σ r)
+      reader-step F range σ r (good .page) (readingOf σ r) (bufferOf σ r)
       (all-getD (GoodReading F) (σ .readings) r idle (good .readings) tt))
   verdict (Cancel r) =
       check (leb (F .readers) r) _ NoSuch _ _ (no-reader r) (λ n. cancelled (busyReading (readingOf σ r)))

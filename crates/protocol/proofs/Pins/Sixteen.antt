@@ -1,5 +1,5 @@
 -- Sixteen stored digits, of which g are gathered: they are as document 01 asks exactly if they are stored from g digits
--- that are below their bases. Once for any width up to eight: counts have m digits, versions q.
+-- that are below their bases. Once for any widths up to eight: a first copy has m digits and the second `own` ones, versions q each.
 use mathlib.Core.Path.{_≡_, refl, sym, ap, ap₂, _∙_}
 use mathlib.Core.List.{
   List,
@@ -99,9 +99,9 @@ module _ (bs : List ℕ) (low high : ℕ) (up : low ≤ high) where
       let back = zeros-are (drop high l) (length l - high) (length-drop high l) (ok .after) in
       rw (← front, ← back, ← take-take low high l up, take-append-drop low (take high l), take-append-drop high l)
 
--- SIXTEEN DIGITS, g of them gathered: a of the first copy, then b of the second. Latest first they are b and then a
--- reversed.
-module _ (bs : List ℕ) (g : ℕ) (narrow : length bs ≤ 8) (few : g ≤ length bs + length bs) where
+-- SIXTEEN DIGITS, g of them gathered: a of the first copy, then b of the v own ones of the second. Latest first they
+-- are b and then a reversed.
+module _ (bs : List ℕ) (v g : ℕ) (inner : v ≤ length bs) (narrow : length bs ≤ 8) (few : g ≤ length bs + v) where
   abbrev w : ℕ
   w = length bs
 
@@ -112,40 +112,51 @@ module _ (bs : List ℕ) (g : ℕ) (narrow : length bs ≤ 8) (few : g ≤ lengt
   k = g - w
 
   abbrev order : List ℕ
-  order = drop (w + w - g) (bs ++ reverse bs)
+  order = drop (w + v - g) (take v bs ++ reverse bs)
 
-  ordered : order ≡ drop (w - k) bs ++ reverse (take j bs)
+  own-length : length (take v bs) ≡ v
+  own-length = length-take v bs ∙ omega arith
+
+  ordered : order ≡ drop (v - k) (take v bs) ++ reverse (take j bs)
   ordered = go (ltb w g) refl
     where
-      go : (t : Bool) → ltb w g ≡ t → order ≡ drop (w - k) bs ++ reverse (take j bs)
+      go : (t : Bool) → ltb w g ≡ t → order ≡ drop (v - k) (take v bs) ++ reverse (take j bs)
       go true e =
           let h : w < g = ltb-true w g e in
-          let p : w + w - g ≡ w - k = omega arith in
-          rw (p, drop-append-le (w - k) bs (reverse bs) (omega arith), take-all j bs (omega arith))
+          let p : w + v - g ≡ v - k = omega arith in
+          rw (
+            p,
+            drop-append-le (v - k) (take v bs) (reverse bs) (omega (arith, own-length)),
+            take-all j bs (omega arith),
+          )
       go false e =
           let h : g ≤ w = ltb-false w g e in
-          let p : w + w - g ≡ w + (w - g) = omega arith in
+          let p : w + v - g ≡ length (take v bs) + (w - g) = omega (arith, own-length) in
           let s : j ≡ g = omega arith in
           let r : reverse bs ≡ reverse (drop g bs) ++ reverse (take g bs) =
           ap (λ (x : List ℕ). reverse x) (sym (take-append-drop g bs)) ∙ reverse-append (take g bs) (drop g bs)
           in
-          rw (p, drop-append-add bs (reverse bs) (w - g), drop-of-length-le bs {i = w - k} (omega arith), s, r)
+          rw (
+            p,
+            drop-append-add (take v bs) (reverse bs) (w - g),
+            drop-of-length-le (take v bs) {i = v - k} (omega (arith, own-length)),
+            s,
+            r,
+          )
           (drop-at (reverse (drop g bs)) (reverse (take g bs)) (w - g) (simp (length-reverse, length-drop)))
 
-  whole : slice (w - k) w bs ≡ drop (w - k) bs
-  whole = ap (λ (x : List ℕ). drop (w - k) x) (take-all w bs (omega arith))
-
-  stored-ok : (ds : List ℕ) → length ds ≡ g → Valid order ds → SixteenOk bs (storedDigits w k ds) g
-  stored-ok ds e v =
+  stored-ok : (ds : List ℕ) → length ds ≡ g → Valid order ds → SixteenOk bs v (storedDigits v k ds) g
+  stored-ok ds e h =
       let a : List ℕ = reverse (drop k ds) in
       let b : List ℕ = take k ds in
-      let zs : List ℕ = replicate (w - k) 0 in
+      let zs : List ℕ = replicate (v - k) 0 in
       let na : length a ≡ j = simp (length-reverse, length-drop) (omega arith) in
       let nb : length b ≡ k = simp length-take (omega arith) in
       let ea : length (eight a) ≡ 8 = length-eight a (omega arith) in
       let (vb, va) =
-      valid-part (drop (w - k) bs) (reverse (take j bs)) b (drop k ds) (simp length-drop (omega arith))
-      (rw (← ordered, take-append-drop k ds) v)
+      valid-part (drop (v - k) (take v bs)) (reverse (take j bs)) b (drop k ds)
+      (simp length-drop (omega (arith, own-length)))
+      (rw (← ordered, take-append-drop k ds) h)
       in
       let va : Valid (take j bs) a = rw reverse-reverse at (valid-reverse va) in
       record {
@@ -154,26 +165,26 @@ module _ (bs : List ℕ) (g : ℕ) (narrow : length bs ≤ 8) (few : g ≤ lengt
             (eight-is bs 0 j (omega arith) a (8 - length a) (omega arith) va);
         second =
             rw (drop-at (eight a) (eight (zs ++ b)) 8 ea)
-            (eight-is bs (w - k) w (omega arith) b (8 - length (zs ++ b)) (omega arith) (rw whole vb));
+            (eight-is bs (v - k) v (omega arith) b (8 - length (zs ++ b)) (omega arith) vb);
       }
 
   ok-stored :
-      (l : List ℕ) → length l ≡ 16 → SixteenOk bs l g →
-      (ds : List ℕ) × (length ds ≡ g) × Valid order ds × (storedDigits w k ds ≡ l)
+      (l : List ℕ) → length l ≡ 16 → SixteenOk bs v l g →
+      (ds : List ℕ) × (length ds ≡ g) × Valid order ds × (storedDigits v k ds ≡ l)
   ok-stored l e ok =
       let a : List ℕ = take j (take 8 l) in
-      let b : List ℕ = slice (w - k) w (drop 8 l) in
-      let zs : List ℕ = replicate (w - k) 0 in
+      let b : List ℕ = slice (v - k) v (drop 8 l) in
+      let zs : List ℕ = replicate (v - k) 0 in
       let n8 : length (take 8 l) ≡ 8 = simp length-take (omega arith) in
       let m8 : length (drop 8 l) ≡ 8 = simp length-drop (omega arith) in
       let na : length a ≡ j = simp length-take (omega arith) in
-      let nb : length b ≡ k = length-slice (w - k) w (drop 8 l) (omega arith) ∙ omega arith in
-      let nz : length (zs ++ b) ≡ w = length-append zs b ∙ omega (arith, length-replicate {A = ℕ} (w - k) 0) in
+      let nb : length b ≡ k = length-slice (v - k) v (drop 8 l) (omega arith) ∙ omega arith in
+      let nz : length (zs ++ b) ≡ v = length-append zs b ∙ omega (arith, length-replicate {A = ℕ} (v - k) 0) in
       let first = is-eight bs 0 j (omega arith) (take 8 l) (omega arith) (ok .first) in
-      let second = is-eight bs (w - k) w (omega arith) (drop 8 l) (omega arith) (ok .second) in (
+      let second = is-eight bs (v - k) v (omega arith) (drop 8 l) (omega arith) (ok .second) in (
         b ++ reverse a,
         length-append b (reverse a) ∙ omega (arith, length-reverse a),
-        rw ordered (valid-join (rw whole at (ok .second .gathered)) (valid-reverse (ok .first .gathered))),
+        rw ordered (valid-join (ok .second .gathered) (valid-reverse (ok .first .gathered))),
         rw (take-at b (reverse a) k nb, drop-at b (reverse a) k nb, reverse-reverse a, na, nz)
             (ap₂ {C = List ℕ} _++_ (rw n8 at first) (rw m8 at second) ∙ take-append-drop 8 l),
       )
@@ -193,10 +204,18 @@ drop-replicate zero n b = let e : n - 0 ≡ n = omega arith in rw e
 drop-replicate (suc i) zero b = let e : 0 - suc i ≡ 0 = omega arith in rw e
 drop-replicate (suc i) (suc n) b = let e : suc n - suc i ≡ n - i = omega arith in rw e (drop-replicate i n b)
 
-pub one-base : (w b g : ℕ) → g ≤ w + w → drop (w + w - g) (replicate w b ++ reverse (replicate w b)) ≡ replicate g b
+pub one-base :
+    (w b g : ℕ) → g ≤ w + w →
+    drop (w + w - g) (take w (replicate w b) ++ reverse (replicate w b)) ≡ replicate g b
 one-base w b g few =
     let e : w + w - (w + w - g) ≡ g = omega arith in
-    rw (reverse-replicate w b, replicate-append-replicate w w b, drop-replicate (w + w - g) (w + w) b, e)
+    rw (
+      take-all w (replicate w b) (omega (arith, length-replicate {A = ℕ} w b)),
+      reverse-replicate w b,
+      replicate-append-replicate w w b,
+      drop-replicate (w + w - g) (w + w) b,
+      e,
+    )
 
 pub every-valid : (b : ℕ) (ds : List ℕ) → every (λ d. ltb d b) ds ≡ true → Valid (replicate (length ds) b) ds
 every-valid b [] h = none
@@ -209,14 +228,14 @@ valid-every b zero [] none = refl
 valid-every b (suc n) (d ∷ ds) (more h v) = together (lt-ltb d b h) (valid-every b n ds v)
 
 -- as many bases as w
-module _ (bs : List ℕ) (w g : ℕ) (size : length bs ≡ w) where
+module _ (bs : List ℕ) (w v g : ℕ) (size : length bs ≡ w) where
   abbrev bases : List ℕ
-  bases = drop (w + w - g) (bs ++ reverse bs)
+  bases = drop (w + v - g) (take v bs ++ reverse bs)
 
-  pub stored-fits : w ≤ 8 → g ≤ w + w → (ds : List ℕ) → length ds ≡ g → Valid bases ds
-      → SixteenOk bs (storedDigits w (g - w) ds) g
-  stored-fits = rw (← size) (stored-ok bs g)
+  pub stored-fits : v ≤ w → w ≤ 8 → g ≤ w + v → (ds : List ℕ) → length ds ≡ g → Valid bases ds
+      → SixteenOk bs v (storedDigits v (g - w) ds) g
+  stored-fits = rw (← size) (stored-ok bs v g)
 
-  pub fits-stored : w ≤ 8 → g ≤ w + w → (l : List ℕ) → length l ≡ 16 → SixteenOk bs l g
-      → (ds : List ℕ) × (length ds ≡ g) × Valid bases ds × (storedDigits w (g - w) ds ≡ l)
-  fits-stored = rw (← size) (ok-stored bs g)
+  pub fits-stored : v ≤ w → w ≤ 8 → g ≤ w + v → (l : List ℕ) → length l ≡ 16 → SixteenOk bs v l g
+      → (ds : List ℕ) × (length ds ≡ g) × Valid bases ds × (storedDigits v (g - w) ds ≡ l)
+  fits-stored = rw (← size) (ok-stored bs v g)

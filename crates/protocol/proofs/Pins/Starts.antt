@@ -11,7 +11,7 @@ use lib.ListN.{length}
 use borrow.Author.Tests.{leb-true, leb-false, eqb-true, eq-eqb, not-true, not-false}
 use Rattle.radix.specs.Digits.{product}
 use Rattle.radix.specs.declared.Count.{Count}
-use Rattle.protocol.specs.Form.{Form, m, countSteps, recordSteps, goodForm}
+use Rattle.protocol.specs.Form.{Form, countSteps, recordSteps, goodForm}
 use Rattle.protocol.specs.State.{State, opened}
 use Rattle.protocol.specs.Outcome.{endingNumber}
 use Rattle.protocol.specs.Command.{Decoded, over, unknown, command}
@@ -48,7 +48,7 @@ use Rattle.protocol.proofs.Pins.Endings.{
 
 -- the lengths that a form asks of memory
 pub record Lengths (F : Form) (L : Memory) : Type 0 where
-  pub page : length (L .page) ≡ m F + m F + F .q + F .n + F .q
+  pub page : length (L .page) ≡ countSteps F + F .q + F .n + F .q
   pub readers : length (L .readers) ≡ F .readers
   pub buffers : length (L .buffers) ≡ F .readers * F .n
 

@@ -2,11 +2,11 @@
 -- order in which they are given.
 use mathlib.Core.List.{List, [], _∷_, reverse}
 use mathlib.Core.Bool.{Bool, true, false, _&&_, _||_, not, cond}
-use Prim.Native.Nat.{ℕ, suc, _+_, _-_, _/_}
+use Prim.Native.Nat.{ℕ, suc, _-_, _/_}
 use lib.Dec.{eqb, ltb, leb}
 use lib.ListN.{length, take, drop, getD}
 use Rattle.radix.specs.Digits.{product, value}
-use Rattle.protocol.specs.Form.{Form, m, versionBases}
+use Rattle.protocol.specs.Form.{Form, m, own, versionBases, countSteps}
 use Rattle.protocol.specs.Layout.{c2, v1, look}
 use Rattle.protocol.specs.State.{
   Reading,
@@ -97,13 +97,13 @@ attempts test = byKind no no false no (λ r a. test a) no no
 -- THE TABLE
 
 -- the next step is the last of a count read, and a is above b: the digits so far are kept latest first, and the last
--- one is the leftmost of c2
+-- one is the leftmost of c2; a is what was read first, b what was read last
 abbrev pub crosses : Form → List ℕ → Reading → Bool
 crosses F page idle = false
 crosses F page (ofCount ds) =
-    let read = reverse (getD page (m F) 0 ∷ ds) in
-    eqb (suc (length ds)) (m F + m F)
-    && ltb (value (F .bases) (reverse (drop (m F) read))) (value (F .bases) (take (m F) read))
+    let read = reverse (getD page (getD (c2 F) 0 0) 0 ∷ ds) in
+    eqb (suc (length ds)) (countSteps F)
+    && ltb (value (F .bases) (reverse (drop (own F) read))) (value (F .bases) (take (m F) read))
 crosses F page (ofRecord a f s ds) = false
 
 -- the rows; those of 1, 2, 3, 11 and 12 are not a command's

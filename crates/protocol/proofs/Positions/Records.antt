@@ -10,7 +10,7 @@ use lib.ListN.{length, getD, length-append, length-replicate, List·getD-append}
 use borrow.Author.Tests.{ltb-true, ltb-false}
 use Rattle.radix.specs.Digits.{digits}
 use Rattle.radix.proofs.Theorems.RoundTrip.{length-digits}
-use Rattle.protocol.specs.Form.{Form, m, versionBases, countSteps, recordSteps}
+use Rattle.protocol.specs.Form.{Form, versionBases, countSteps, recordSteps}
 use Rattle.protocol.specs.Layout.{v1, v2, content, recordOrder, recordDigits, attemptOrder}
 use Rattle.protocol.proofs.Lists.Places.{length-range, getD-range, getD-reverse, getD-right, getD-past}
 
@@ -20,7 +20,7 @@ recordImage F x r = recordDigits F (record { 0 = x }) r
 
 module _ (F : Form) where
   abbrev base : ℕ
-  base = m F + m F
+  base = countSteps F
 
   -- the steps before the second version, and where v2 starts on the page
   abbrev front : ℕ
@@ -28,6 +28,12 @@ module _ (F : Form) where
 
   abbrev last : ℕ
   last = base + F .q + F .n
+
+  pub v1-at : (k : ℕ) → k < F .q → getD (v1 F) k 0 ≡ countSteps F + k
+  v1-at = getD-range base (F .q)
+
+  pub v2-at : (k : ℕ) → k < F .q → getD (v2 F) k 0 ≡ countSteps F + F .q + F .n + k
+  v2-at = getD-range last (F .q)
 
   length-front : length (v1 F ++ content F) ≡ front
   length-front =
@@ -47,13 +53,13 @@ module _ (F : Form) where
           ∙ getD-range (base + F .q) (F .n) (k - F .q) (omega arith)
           ∙ omega arith
 
-  pub recordLow : (k : ℕ) → k < F .q + F .n → getD (recordOrder F) k 0 ≡ m F + m F + k
+  pub recordLow : (k : ℕ) → k < F .q + F .n → getD (recordOrder F) k 0 ≡ countSteps F + k
   unfolding recordOrder
   recordLow k h =
       List·getD-append (v1 F ++ content F) _ 0 k (omega (arith, length-front)) ∙ at-front k h
 
   pub recordHigh :
-      (k j : ℕ) → suc (k + j) ≡ F .q → getD (recordOrder F) (F .q + F .n + k) 0 ≡ m F + m F + F .q + F .n + j
+      (k j : ℕ) → suc (k + j) ≡ F .q → getD (recordOrder F) (F .q + F .n + k) 0 ≡ countSteps F + F .q + F .n + j
   unfolding recordOrder
   recordHigh k j h =
       getD-right (v1 F ++ content F) _ 0 front k length-front
@@ -63,8 +69,8 @@ module _ (F : Form) where
   -- the place of an index, in one of two ways
   abbrev pub RecordAt : ℕ → Type 0
   RecordAt k =
-      ((k < F .q + F .n) × (getD (recordOrder F) k 0 ≡ m F + m F + k))
-      ⊎ ((F .q + F .n ≤ k) × (suc (k + getD (recordOrder F) k 0) ≡ m F + m F + (F .q + F .n) + recordSteps F))
+      ((k < F .q + F .n) × (getD (recordOrder F) k 0 ≡ countSteps F + k))
+      ⊎ ((F .q + F .n ≤ k) × (suc (k + getD (recordOrder F) k 0) ≡ countSteps F + (F .q + F .n) + recordSteps F))
 
   pub recordAt : (k : ℕ) → k < recordSteps F → RecordAt k
   recordAt k h = go (ltb k front) refl
@@ -88,12 +94,12 @@ module _ (F : Form) where
 
   pub record-within :
       (k : ℕ) → k < recordSteps F →
-      (m F + m F ≤ getD (recordOrder F) k 0) × (getD (recordOrder F) k 0 < countSteps F + recordSteps F)
+      (countSteps F ≤ getD (recordOrder F) k 0) × (getD (recordOrder F) k 0 < countSteps F + recordSteps F)
   record-within k h = go (recordAt k h)
     where
       go :
           RecordAt k →
-          (m F + m F ≤ getD (recordOrder F) k 0) × (getD (recordOrder F) k 0 < countSteps F + recordSteps F)
+          (countSteps F ≤ getD (recordOrder F) k 0) × (getD (recordOrder F) k 0 < countSteps F + recordSteps F)
       go (inl a) = omega arith
       go (inr a) = omega arith
 

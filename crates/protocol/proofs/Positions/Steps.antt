@@ -1,20 +1,13 @@
--- The positions and digits of Counts and Records, by the index of the step: a second copy's place as the distance from
--- the end.
+-- The positions and digits of Records, by the index of the step: a second copy's place as the distance from the end.
 use mathlib.Core.Path.{_≡_, _∙_}
 use mathlib.Core.List.{List}
 use Prim.Native.Nat.{ℕ, suc, _+_, _-_, _≤_, _<_}
 use native.Mathlib.Omega.{arith}
 use lib.ListN.{length, getD}
 use Rattle.radix.specs.Digits.{digits}
-use Rattle.protocol.specs.Form.{Form, m, versionBases, countSteps, recordSteps}
-use Rattle.protocol.specs.Layout.{
-  countOrder,
-  countReadOrder,
-  recordOrder,
-  attemptOrder,
-}
+use Rattle.protocol.specs.Form.{Form, versionBases, countSteps, recordSteps}
+use Rattle.protocol.specs.Layout.{recordOrder, attemptOrder}
 use Rattle.protocol.proofs.Lists.Places.{getD-past}
-use Rattle.protocol.proofs.Positions.Counts.{countImage, countLow, countHigh, countRead, countDigitLow, countDigitHigh}
 use Rattle.protocol.proofs.Positions.Records.{
   recordImage,
   recordLow,
@@ -26,43 +19,26 @@ use Rattle.protocol.proofs.Positions.Records.{
 }
 
 module _ (F : Form) where
-  -- a count write: first c2, then c1 from its end
-  pub count-low : (k : ℕ) → k < m F → getD (countOrder F) k 0 ≡ m F + k
-  count-low = countLow F
-
-  pub count-high : (k j : ℕ) → m F ≤ k → suc (k + j) ≡ countSteps F → getD (countOrder F) k 0 ≡ j
-  count-high k j h e = getD-past (countOrder F) 0 (m F) k h ∙ countHigh F (k - m F) j (omega arith)
-
-  pub count-read : (i p : ℕ) → suc (i + p) ≡ countSteps F → getD (countReadOrder F) i 0 ≡ getD (countOrder F) p 0
-  count-read = countRead F
-
-  pub digit-low : (c k : ℕ) → k < m F → getD (countImage F c) k 0 ≡ getD (digits (F .bases) c) k 0
-  digit-low = countDigitLow F
-
-  pub digit-high : (c k j : ℕ) → m F ≤ k → suc (k + j) ≡ countSteps F
-      → getD (countImage F c) k 0 ≡ getD (digits (F .bases) c) j 0
-  digit-high c k j h e = getD-past (countImage F c) 0 (m F) k h ∙ countDigitHigh F c (k - m F) j (omega arith)
-
   -- a record write: v1 and the bytes, then v2 from its end
-  pub record-before : (k : ℕ) → k < F .q → getD (recordOrder F) k 0 ≡ m F + m F + k
+  pub record-before : (k : ℕ) → k < F .q → getD (recordOrder F) k 0 ≡ countSteps F + k
   record-before k h = recordLow F k (omega arith)
 
-  pub record-content : (k : ℕ) → F .q ≤ k → k < F .q + F .n → getD (recordOrder F) k 0 ≡ m F + m F + k
+  pub record-content : (k : ℕ) → F .q ≤ k → k < F .q + F .n → getD (recordOrder F) k 0 ≡ countSteps F + k
   record-content k g h = recordLow F k h
 
   pub record-after : (k j : ℕ) → F .q + F .n ≤ k → suc (k + j) ≡ recordSteps F
-      → getD (recordOrder F) k 0 ≡ m F + m F + F .q + F .n + j
+      → getD (recordOrder F) k 0 ≡ countSteps F + F .q + F .n + j
   record-after k j h e =
       getD-past (recordOrder F) 0 (F .q + F .n) k h ∙ recordHigh F (k - (F .q + F .n)) j (omega arith)
 
   -- an attempt: v2, the bytes, then v1 from its end
-  pub attempt-after : (k : ℕ) → k < F .q → getD (attemptOrder F) k 0 ≡ m F + m F + F .q + F .n + k
+  pub attempt-after : (k : ℕ) → k < F .q → getD (attemptOrder F) k 0 ≡ countSteps F + F .q + F .n + k
   attempt-after k h =
       readV2 F k (recordSteps F - suc k) h (omega arith)
       ∙ record-after (recordSteps F - suc k) k (omega arith) (omega arith)
 
   pub attempt-before : (k j : ℕ) → F .q + F .n ≤ k → suc (k + j) ≡ recordSteps F
-      → getD (attemptOrder F) k 0 ≡ m F + m F + j
+      → getD (attemptOrder F) k 0 ≡ countSteps F + j
   attempt-before k j h e = readV1 F k j h e ∙ recordLow F j (omega arith)
 
   -- the digits of a record write

@@ -10,14 +10,15 @@ use lib.ListN.{length, getD, set}
 use borrow.Author.Tests.{le-ltb}
 use Rattle.radix.specs.Digits.{product, value, digits}
 use Rattle.radix.proofs.Theorems.RoundTrip.{value-digits}
-use Rattle.protocol.specs.Form.{Form, m, versionBases, countSteps, recordSteps}
+use Rattle.protocol.specs.Form.{Form, versionBases, countSteps, recordSteps}
 use Rattle.protocol.specs.Layout.{v1, look, recordOrder}
 use Rattle.protocol.specs.State.{Reading}
 use Rattle.protocol.specs.Run.{Event}
 use Rattle.protocol.specs.History.{Write, Placed, openingPlace, placed, begun, Read, Attempt}
-use Rattle.protocol.proofs.Lists.Places.{look-is}
+use Rattle.protocol.proofs.Lists.Places.{length-range, look-is}
 use Rattle.protocol.proofs.Positions.Records.{
   recordImage,
+  v1-at,
   recordLow,
   record-apart,
   record-within,
@@ -71,10 +72,11 @@ module _ (F : Form) (r₀ : List ℕ) (pos : 0 < recordSteps F) where
     v1-top size₀ room inv =
         let T : ℕ = topRecord r₀ ps in
         ap (value (versionBases F))
-        (look-is page (m F + m F) (digits (versionBases F) T) (F .q) (length-version F T)
+        (look-is page (v1 F) (digits (versionBases F) T) (length-range (countSteps F) (F .q) ∙ sym (length-version F T))
         (λ k g.
-        ap (λ i. getD page i 0) (sym (recordLow F k (omega arith))) ∙ inv .holds k (omega arith)
-        ∙ recordDigitLow F T (recordAs r₀ ps T) (record-size F r₀ ps T size₀ (inv .numbered)) k g))
+        let l : k < F .q = omega (arith, length-range (countSteps F) (F .q)) in
+        ap (λ i. getD page i 0) (v1-at F k l ∙ sym (recordLow F k (omega arith))) ∙ inv .holds k (omega arith)
+        ∙ recordDigitLow F T (recordAs r₀ ps T) (record-size F r₀ ps T size₀ (inv .numbered)) k l))
         ∙ value-digits (versionBases F) T (top-below F r₀ ps room (inv .numbered))
         ∙ numbered-top F r₀ ps (inv .numbered)
 

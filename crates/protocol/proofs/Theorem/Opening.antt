@@ -1,15 +1,14 @@
 -- An accepted opening: what it checked, and the invariant that it leaves.
-use mathlib.Core.Path.{_≡_, refl, sym, ap, _∙_}
-use mathlib.Core.Logic.{inl, inr}
+use mathlib.Core.Path.{_≡_, refl}
 use mathlib.Core.List.{List, []}
 use mathlib.Core.Bool.{true}
 use Prim.Native.Nat.{ℕ, _<_}
 use native.Mathlib.Omega.{arith}
-use lib.ListN.{length, getD, length-replicate}
+use lib.ListN.{length, length-replicate}
 use Rattle.radix.specs.declared.Count.{Count}
 use Rattle.radix.specs.Digits.{product}
 use Rattle.protocol.specs.Form.{Form, goodForm, countSteps}
-use Rattle.protocol.specs.Layout.{countOrder, countDigits}
+use Rattle.protocol.specs.Layout.{countOrder}
 use Rattle.protocol.specs.State.{idle, opened}
 use Rattle.protocol.specs.Memory.{Memory, stored}
 use Rattle.protocol.specs.Run.{openPage, Ran}
@@ -17,9 +16,8 @@ use Rattle.protocol.specs.History.{Read, fresh}
 use Rattle.protocol.specs.Demand.{rests, idles}
 use Rattle.protocol.specs.declared.Ending.the-variants.{Finished}
 use Rattle.protocol.proofs.Lists.Places.{getD-all}
-use Rattle.protocol.proofs.Positions.Counts.{countImage, CountAt, countAt, countDigitLow}
-use Rattle.protocol.proofs.Positions.Steps.{digit-high}
-use Rattle.protocol.proofs.Positions.Opened.{P, opened-first, opened-second}
+use Rattle.protocol.proofs.Positions.Counts.{countImage}
+use Rattle.protocol.proofs.Positions.Opened.{P, opened-count}
 use Rattle.protocol.proofs.Items.Seen.{Holds}
 use Rattle.protocol.proofs.InRange.{in-range}
 use Rattle.protocol.proofs.Pins.Ranges.{good-form}
@@ -53,6 +51,7 @@ proper F r₀ good size =
     let range = in-range F good in
     record {
       places = range .places .0;
+      shared = range .shared;
       versions = range .versions .0;
       bytes = range .bytes .0;
       size = size;
@@ -65,14 +64,7 @@ module _ (F : Form) (c : Count) (r₀ : List ℕ) (good : goodForm F ≡ true) (
   page = P F (c .0) r₀
 
   holds-count : Holds (countSteps F) (countOrder F) (countImage F) page (λ k. c .0)
-  holds-count k h = go (countAt F k h)
-    where
-      go : CountAt F k → getD page (getD (countOrder F) k 0) 0 ≡ getD (countDigits F c) k 0
-      go (inl a) =
-          ap (λ i. getD page i 0) (a .1) ∙ opened-second F (c .0) r₀ k (a .0) ∙ sym (countDigitLow F (c .0) k (a .0))
-      go (inr a) =
-          opened-first F (c .0) r₀ (getD (countOrder F) k 0) (omega arith)
-          ∙ sym (digit-high F (c .0) k (getD (countOrder F) k 0) (a .0) (a .1))
+  holds-count = opened-count F (c .0) r₀
 
   opened-inv : Inv F c r₀ [] (opened F c r₀) (fresh F)
   unfolding opened fresh

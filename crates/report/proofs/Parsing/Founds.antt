@@ -52,7 +52,7 @@ module _ (s : List ℕ) {m n : ℕ} (p : m ≡ places s) (e : n ≡ formIn s .n)
 
 -- a form without its bases
 abbrev formatOf : Form → Format
-formatOf F = record { q = F .q; base = F .base; n = F .n; readers = F .readers }
+formatOf F = record { q = F .q; base = F .base; layout = F .shared; n = F .n; readers = F .readers }
 
 pub header-is :
     (s : List ℕ) {bs : List ℕ} {f : Format} {m x first records commands : ℕ} →

@@ -1,22 +1,22 @@
 -- The bytes that the program keeps say a state: what was packed is found again, and so is what an opening leaves.
-use mathlib.Core.Path.{_≡_, refl, sym, ap, _∙_}
+use mathlib.Core.Path.{_≡_, sym, ap, _∙_}
 use mathlib.Core.List.{List, [], _∷_, map}
 use mathlib.Core.Bool.{true}
-use Prim.Native.Nat.{ℕ, _+_, _*_, _-_, _<_}
+use Prim.Native.Nat.{ℕ, _+_, _*_, _^_, _<_}
 use native.Mathlib.Omega.{arith}
 use lib.ListN.{length, length-map}
 use borrow.Author.Tests.{eq-eqb, lt-leb}
 use Rattle.radix.specs.Digits.{product}
 use Rattle.radix.specs.declared.Count.{Count}
 use Rattle.protocol.specs.Lists.{All}
-use Rattle.protocol.specs.Form.{Form, m, countSteps, recordSteps, goodForm}
+use Rattle.protocol.specs.Form.{Form, countSteps, recordSteps, goodForm}
 use Rattle.protocol.specs.State.{Reading, idle, ofCount, ofRecord, State, opened}
 use Rattle.protocol.specs.Memory.{Memory, storedReading, stored, goodLengths}
 use Rattle.protocol.specs.Run.{openPage}
 use Rattle.protocol.proofs.InRange.{InRange, in-range}
 use Rattle.protocol.proofs.Allowed.Kept.{Fine}
 use Rattle.protocol.proofs.Allowed.Means.{GoodReading}
-use Rattle.protocol.proofs.Memory.Digits.{length-storedDigits}
+use Rattle.protocol.proofs.Allowed.Stored.{length-storedReading}
 use Rattle.fresh.specs.Opening.{openLent}
 use Rattle.packed.specs.Kept.{Kept, statesOf, unpackedOf, packedOver, openKept}
 use Rattle.packed.proofs.Packings.Packs.{unpacked-length}
@@ -33,17 +33,14 @@ module _ (F : Form) (S : List ℕ) (good : goodForm F ≡ true) where
 
   -- A STATE'S READERS FIT INTO THEIR BYTES
 
-  reading-lends : (x : Reading) → GoodReading F x → Lendable (storedReading F x)
+  few-steps : (x : Reading) → GoodReading F x → storedReading F x .stage .steps < 2 ^ 64
   unfolding storedReading
-  reading-lends idle g = (omega arith, refl)
-  reading-lends (ofCount ds) g = (
-    omega (arith, g .0, range .places),
-    length-storedDigits (m F) ds (length ds - m F) (range .places .1) (omega (arith, g .0)) refl,
-  )
-  reading-lends (ofRecord a f s ds) g = (
-    omega (arith, g .1, range .versions, range .bytes),
-    length-storedDigits (F .q) ds (length ds - F .q) (omega (arith, range .versions)) (omega (arith, g .1, g .2)) refl,
-  )
+  few-steps idle g = omega arith
+  few-steps (ofCount ds) g = omega (arith, g .0, range .places)
+  few-steps (ofRecord a f s ds) g = omega (arith, g .1, range .versions, range .bytes)
+
+  reading-lends : (x : Reading) → GoodReading F x → Lendable (storedReading F x)
+  reading-lends x g = (few-steps x g, length-storedReading F range x g)
 
   readings-lend : (l : List Reading) → All (GoodReading F) l → All Lendable (map (storedReading F) l)
   readings-lend [] h = tt

@@ -9,7 +9,7 @@ use borrow.Author.Tests.{leb-false}
 use Rattle.radix.specs.declared.Comparison.{Comparison}
 use Rattle.radix.specs.declared.Comparison.the-variants.{Equal, Parted, Crossed}
 use Rattle.radix.specs.Digits.{product, value}
-use Rattle.protocol.specs.Form.{Form, m, versionBases, countSteps, recordSteps}
+use Rattle.protocol.specs.Form.{Form, m, own, versionBases, countSteps, recordSteps}
 use Rattle.protocol.specs.Layout.{c2, v1, look}
 use Rattle.protocol.specs.Outcome.{refusalNumber}
 use Rattle.protocol.specs.State.{
@@ -93,7 +93,7 @@ module _ (F : Form) (r : ℕ) (low : r < F .readers) where
   gathers d idle b = omega arith
   gathers d (ofCount ds) b =
       by-cond (Gathers (F .readers)) (ltb (suc (length ds)) (countSteps F)) (λ e. tt)
-      (λ e. count-ends b (copyA (m F) (d ∷ ds)) (copyB (m F) (d ∷ ds)) _)
+      (λ e. count-ends b (copyA (own F) (d ∷ ds)) (copyB (m F) (d ∷ ds)) _)
   gathers d (ofRecord a f s ds) b =
       by-cond (Gathers (F .readers)) (leb (F .q) s && ltb s (F .q + F .n)) (λ e. tt)
       (λ e.

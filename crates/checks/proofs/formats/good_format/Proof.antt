@@ -22,37 +22,42 @@ returns-2 c =
     (λ h. never (sym (not-true _ (c .if2 .taken)) ∙ c .before .good2 .ensures ∙ good-counts _ h))
 
 returns-3 : tie.Need-returns-3
-returns-3 c =
-    refuted _
-    (λ h. let r = in-range _ h in ⊎-elim (λ w. omega arith) (λ w. omega (arith, ltb-true)) (c .if3 .came))
+returns-3 c = refuted _ (λ h. let r = in-range _ h in omega arith)
 
 returns-4 : tie.Need-returns-4
 returns-4 c =
     refuted _
-    (λ h. let r = in-range _ h in ⊎-elim (λ w. omega arith) (λ w. omega (arith, ltb-true)) (c .if5 .came))
+    (λ h. let r = in-range _ h in ⊎-elim (λ w. omega arith) (λ w. omega (arith, ltb-true)) (c .if4 .came))
 
 returns-5 : tie.Need-returns-5
 returns-5 c =
     refuted _
-    (λ h. let r = in-range _ h in ⊎-elim (λ w. omega arith) (λ w. omega (arith, ltb-true)) (c .if7 .came))
+    (λ h. let r = in-range _ h in ⊎-elim (λ w. omega arith) (λ w. omega (arith, ltb-true)) (c .if6 .came))
 
 returns-6 : tie.Need-returns-6
 returns-6 c =
+    refuted _
+    (λ h. let r = in-range _ h in ⊎-elim (λ w. omega arith) (λ w. omega (arith, ltb-true)) (c .if8 .came))
+
+returns-7 : tie.Need-returns-7
+returns-7 c =
     let n = c .before .before .before in
     let b = n .before .before .before .before in
     let q = b .before .before .before .before in
-    let g = q .before .before .before .before in
+    let l = q .before .before .before .before in
+    let g = l .before .before in
     form-is _ (g .before .before .if1 .left)
     (sym (g .before .good2 .ensures) ∙ not-false _ (g .if2 .left))
-    (q .before .before .if3 .left, ltb-false _ _ (q .if4 .left))
-    (b .before .before .if5 .left, ltb-false _ _ (b .if6 .left))
-    (n .before .before .if7 .left, ltb-false _ _ (n .if8 .left))
-    (c .before .if9 .taken)
+    (l .if3 .left)
+    (q .before .before .if4 .left, ltb-false _ _ (q .if5 .left))
+    (b .before .before .if6 .left, ltb-false _ _ (b .if7 .left))
+    (n .before .before .if8 .left, ltb-false _ _ (n .if9 .left))
+    (c .before .if10 .taken)
 
-returns-7 : tie.Need-returns-7
-returns-7 c = lt-leb _ _ (c .if9 .left) ∙ refuted _ (λ h. let r = in-range _ h in omega arith)
+returns-8 : tie.Need-returns-8
+returns-8 c = lt-leb _ _ (c .if10 .left) ∙ refuted _ (λ h. let r = in-range _ h in omega arith)
 
 pub good-format-spec : {M : Type 1} → statement M
 good-format-spec =
     tie.close
-    (tie.spec returns good-requires returns-2 returns-3 returns-4 returns-5 returns-6 returns-7)
+    (tie.spec returns good-requires returns-2 returns-3 returns-4 returns-5 returns-6 returns-7 returns-8)

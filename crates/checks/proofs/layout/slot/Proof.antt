@@ -9,13 +9,21 @@ returns : tie.Need-returns
 returns c = rw (lt-leb _ _ (c .if1 .taken))
 
 returns-2 : tie.Need-returns-2
-returns-2 c = rw (le-leb _ _ (c .before .if1 .left), lt-ltb _ _ (c .if2 .taken))
-
-add-if3 : tie.Need-add-if3
-add-if3 c = search needs
+returns-2 c = rw (le-leb _ _ (c .before .if1 .left), lt-leb _ _ (c .if2 .taken))
 
 returns-3 : tie.Need-returns-3
-returns-3 c = rw (le-leb _ _ (c .before .before .if1 .left), le-ltb _ _ (c .before .if2 .left)) (omega arith)
+returns-3 c =
+    let b = c .before in
+    rw (le-leb _ _ (b .before .if1 .left), le-leb _ _ (b .if2 .left), lt-ltb _ _ (c .if3 .taken))
+
+add-if4 : tie.Need-add-if4
+add-if4 c = search needs
+
+returns-4 : tie.Need-returns-4
+returns-4 c =
+    let k = c .before in
+    let b = k .before in
+    rw (le-leb _ _ (b .before .if1 .left), le-leb _ _ (b .if2 .left), le-ltb _ _ (k .if3 .left)) (omega arith)
 
 add-result : tie.Need-add-result
 add-result c = search needs
@@ -29,8 +37,11 @@ sub-result-2 c = search needs
 add-result-2 : tie.Need-add-result-2
 add-result-2 c = search needs
 
-returns-4 : tie.Need-returns-4
-returns-4 c = rw (le-leb _ _ (c .before .before .if1 .left), le-ltb _ _ (c .before .if2 .left))
+returns-5 : tie.Need-returns-5
+returns-5 c =
+    let k = c .before in
+    let b = k .before in
+    rw (le-leb _ _ (b .before .if1 .left), le-leb _ _ (b .if2 .left), le-ltb _ _ (k .if3 .left))
 
 pub slot-spec : {M : Type 1} → statement M
 slot-spec =
@@ -38,10 +49,11 @@ slot-spec =
     (tie.spec
     returns
     returns-2
-    add-if3
     returns-3
+    add-if4
+    returns-4
     add-result
     sub-result
     sub-result-2
     add-result-2
-    returns-4)
+    returns-5)

@@ -69,7 +69,7 @@ digits-valid-requires c κs =
     let b = small-bounds (form-at s) (s .pre .0) in
     let l = length-here s in
     let i = within e in
-    (omega arith, s .pre .1, omega (arith, gathered-here c))
+    (omega arith, omega arith, s .pre .1, omega (arith, gathered-here c))
 
 returns-2 : tie.Need-returns-2
 returns-2 c =

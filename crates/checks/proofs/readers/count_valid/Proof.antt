@@ -54,7 +54,7 @@ returns-3 c =
     let k = z .before in
     let e = k .before .before in
     let s = start₂ e in
-    c .none-gathered .ensures
+    c .none-gathered .ensures _
     ∙ none-fine _ (s .pre .0) _ _ (s .pre .1) (k .if3 .taken) (e .before .before .if1 .left) (finished-here e)
     (z .if4 .left)
 
@@ -78,19 +78,24 @@ within : (c : tie.Else6) →
     s .args .s .steps < countSteps (formOf (s .args .bases .now) (s .args .format))
 within c = leb-false _ _ (rw (c .before .count-steps .ensures) at (c .if6 .left))
 
+own-requires : tie.Need-own-requires
+own-requires c κs = search needs
+
 digits-valid-requires : tie.Need-digits-valid-requires
 digits-valid-requires c κs =
-    let s = start₂ (c .before .before .before .before .before .before) in
-    let b = small-bounds _ (s .pre .0) in
-    (b .places, s .pre .1, omega (arith, within c))
+    let i = c .before in
+    let s = start₂ (i .before .before .before .before .before .before) in
+    let o = c .own .ensures in
+    (small-bounds _ (s .pre .0) .places, omega arith, s .pre .1, omega (arith, within i))
 
 returns-5 : tie.Need-returns-5
 returns-5 c =
-    let i = c .before in
+    let w = c .before in
+    let i = w .before in
     let o = i .before .before in
     let e = o .before .before .before .before in
     let s = start₂ e in
-    c .digits-valid .ensures
+    rw (w .own .ensures) at (c .digits-valid .ensures)
     ∙ count-fine _ (s .pre .0) _ _ (s .pre .1) (o .if5 .left) (e .before .before .if1 .left) (finished-here e) (within i)
 
 pub count-valid-spec : {M : Type 1} → statement M
@@ -103,5 +108,6 @@ count-valid-spec =
     returns-3
     count-steps-requires
     returns-4
+    own-requires
     digits-valid-requires
     returns-5)

@@ -13,7 +13,7 @@ returns : tie.Need-returns
 returns c =
     let t = c .before .before in
     rw (
-      gathered-first _ _ _ (t .if1 .taken),
+      gathered-first _ _ _ _ (t .if1 .taken),
       sym (c .before .eight-valid .ensures) ∙ not-true _ (c .if2 .taken),
     )
 
@@ -25,7 +25,7 @@ returns-2 c =
     let e = c .before in
     let t = e .before .before in
     rw (
-      gathered-first _ _ _ (t .if1 .taken),
+      gathered-first _ _ _ _ (t .if1 .taken),
       sym (e .before .eight-valid .ensures) ∙ not-false _ (e .if2 .left),
       c .eight-valid2 .ensures,
     )
@@ -37,7 +37,7 @@ returns-3 : tie.Need-returns-3
 returns-3 c =
     let t = c .before .before in
     rw (
-      gathered-second _ _ _ (t .if1 .left),
+      gathered-second _ _ _ _ (t .if1 .left),
       sym (c .before .eight-valid3 .ensures) ∙ not-true _ (c .if3 .taken),
     )
 
@@ -52,7 +52,7 @@ returns-4 c =
     let e = c .before in
     let t = e .before .before in
     rw (
-      gathered-second _ _ _ (t .if1 .left),
+      gathered-second _ _ _ _ (t .if1 .left),
       sym (e .before .eight-valid3 .ensures) ∙ not-false _ (e .if3 .left),
       c .eight-valid4 .ensures,
     )

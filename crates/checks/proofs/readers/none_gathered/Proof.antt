@@ -48,7 +48,7 @@ returns c =
     let d = s .args .digits .now in
     let z = sum-end d (l .loop .p) (l .loop .p) 16 (c .loop-test .left) in
     let e : l .loop .bits ≡ l .loop .bits + sumOf d (l .loop .p) (16 - l .loop .p) = omega (arith, z) in
-    ap (λ n. eqb n 0) e ∙ l .loop .inv .1 ∙ none-gathered (s .args .bases .now) d (s .pre .0)
+    λ v. ap (λ n. eqb n 0) e ∙ l .loop .inv .1 ∙ none-gathered (s .args .bases .now) d v
 
 pub none-gathered-spec : {M : Type 1} → statement M
 none-gathered-spec =

@@ -7,8 +7,9 @@ use lib.ListN.{length, take, drop, replicate, length-replicate}
 use lib.Seq.{length-take-le}
 use Rattle.radix.specs.Digits.{digits}
 use Rattle.radix.proofs.Theorems.RoundTrip.{length-digits}
-use Rattle.protocol.specs.Form.{formOf, versionBases}
+use Rattle.protocol.specs.Form.{formOf, own, versionBases}
 use Rattle.protocol.specs.State.{opened}
+use Rattle.protocol.proofs.InRange.{in-range}
 use Rattle.codec.specs.Entry.{overlay}
 use Rattle.checks.proofs.Small.{of-small}
 use Rattle.checks.proofs.Forms.{good-counts}
@@ -16,6 +17,9 @@ use Rattle.fresh.proofs.Openings.Filled.{zero-digits, whole-digits, onc
 use Rattle.codec.proofs.Pastes.{pasted-there}
 use Rattle.fresh.proofs.filling.fill_page.Statement.{statement}
 use Rattle.fresh.proofs.filling.fill_page.Tie as tie
+
+add-both : tie.Need-add-both
+add-both c = search needs
 
 count-steps-requires : tie.Need-count-steps-requires
 count-steps-requires c κs = search needs
@@ -38,8 +42,12 @@ sub-write c = search needs
 part-write-start : tie.Need-part-write-start
 part-write-start c = search needs
 
+-- both copies whole lie within the page, where they share a digit too
+both-fit : (s : tie.Start) → length (s .args .bases .now) + length (s .args .bases .now) ≤ length (s .args .page .now)
+both-fit s = let r = in-range _ (s .pre .0) in omega (arith, s .pre .1)
+
 part-write-end : tie.Need-part-write-end
-part-write-end c = search needs
+part-write-end c = omega (arith, both-fit (c .before .before .before .before .before .before .before .before))
 
 write-requires-2 : tie.Need-write-requires-2
 write-requires-2 c κs = search needs
@@ -134,16 +142,15 @@ second-here c =
     let d = w .write .last .1 .1 .0 in
     let e : length d ≡ m = ap length (first-here w) ∙ length-digits b (s .args .c .0) in
     ap (λ x. x .out) (c .write2 .ensures)
-    ∙ whole-digits b (s .args .c .0) (take (end₂ c - m) (drop m (once m d (s .args .page .now))))
-    (good-counts _ (s .pre .0))
-    (second-length m (end₂ c) d (s .args .page .now) (w .before .before .count-steps .ensures) e (omega arith)) (s .pre .3)
+    ∙ whole-digits b (s .args .c .0) (take (m + m - m) (drop m (once m d (s .args .page .now)))) (good-counts _ (s .pre .0))
+    (second-length m d (s .args .page .now) e (both-fit s)) (s .pre .3)
 
 -- the page after both, and after the first zeros
 zeros-here : (c : tie.After-put-zeros) →
     let a = start₃ c .args in
     let m = length (a .bases .now) in
     c .put-zeros .last .0 ≡
-    overlay (twice m (end₃ c) (digits (a .bases .now) (a .c .0)) (a .page .now)) (end₃ c) (replicate (a .format .q) 0)
+    overlay (twice m (digits (a .bases .now) (a .c .0)) (a .page .now)) (end₃ c) (replicate (a .format .q) 0)
 zeros-here c =
     let w = c .before .before .before .before in
     let a = start₃ c .args in
@@ -169,14 +176,16 @@ returns c =
     let there = sym (pasted-there (z .put-zeros .last .0) (k .content-start .result) (a .«record» .now) (record-fits k)) in
     last .put-zeros2 .ensures
     ∙ rw (version-here v, r .put-bytes .ensures ∙ there, content-here k, zeros-here z, e)
-    (filled (a .page .now) (digits b (a .c .0)) (replicate q 0) (a .«record» .now) (length b) (end₃ z) q (a .format .n)
-    counted (length-digits b (a .c .0)) (length-replicate q 0) (s .pre .2)
+    (filled (a .page .now) (digits b (a .c .0)) (replicate q 0) (a .«record» .now) (length b) (own (formOf b (a .format)))
+    (end₃ z) q (a .format .n) counted (omega arith) (length-digits b (a .c .0)) (both-fit s) (length-replicate q 0)
+    (s .pre .2)
     (s .pre .1 ∙ ap (λ k. k + (q + a .format .n + q)) (sym counted)))
 
 pub fill-page-spec : {M : Type 1} → statement M
 fill-page-spec =
     tie.close
     (tie.spec
+    add-both
     count-steps-requires
     slice-relend-prefix-write
     slice-aggregate-write

@@ -27,14 +27,14 @@ form c = formOf (start c .args .bases .now) (start c .args .format)
 abbrev leaves : tie.After-ends-of → List ℕ → Gathered → Left
 leaves c b g =
     let a = start c .args in
-    onGathered (form c) (a .room) (before (a .stage) (a .digits .now)) b g
+    onGathered (form c) (a .room) (before (a .stage) (a .last) (a .digits .now)) b g
 
 -- what the ends that were found tell
 told :
     (c : tie.After-ends-of) (e : Ends) → c .ends-of .result ≡ e → (b : List ℕ) →
     let a = start c .args in
-    leaves c b (toldBy (a .who) b e) ≡ countEnded (form c) (a .who) (a .room) (a .stage) (a .digits .now) b
-told c e is b = count-told _ _ _ _ _ b e (start c .pre) (sym is ∙ c .ends-of .ensures)
+    leaves c b (toldBy (a .who) b e) ≡ countEnded (form c) (a .who) (a .room) (a .stage) (a .last) (a .digits .now) b
+told c e is b = count-told _ _ _ _ _ _ b e (start c .pre .0) (sym is ∙ c .ends-of .ensures)
 
 finish-requires : tie.Need-finish-requires
 finish-requires c κs = search needs

@@ -36,7 +36,7 @@ returns-2 : tie.Need-returns-2
 returns-2 c =
     let z = c .before .before .before in
     let i = z .before .before in
-    let e = z .zero .ensures ∙ ap (λ n. replicate n 0) (i .before .before .before .pre) in
+    let e = z .zero .ensures ∙ ap (λ n. replicate n 0) (i .before .before .before .pre .0) in
     λ F b. rw (c .over .ensures) (has-room F _ _ _ (i .before .size .ensures) _ b _ (i .if1 .left) e)
 
 pub finish-spec : {M : Type 1} → statement M

@@ -46,7 +46,7 @@ returns c =
     let p = i .before .before .before in
     let s = p .before .before .before .before in (
       refl,
-      λ room. rw (c .gather .ensures)
+      λ room. rw (c .gather .ensures .1, c .gather .ensures .0)
           (advance-count _ _ _ _ _ _ (s .pre .0) (s .pre .1) _ room (p .position .ensures _ (s .pre .0 .held) .0) (i .if1 .taken)),
     )
 

@@ -68,17 +68,29 @@ returns-2 c =
 count-steps-requires : tie.Need-count-steps-requires
 count-steps-requires c κs = search needs
 
-sub-read : tie.Need-sub-read
-sub-read c = search needs
+own-requires : tie.Need-own-requires
+own-requires c κs = search needs
 
-part-read-start : tie.Need-part-read-start
-part-read-start c = search needs
+sub-read-parts : tie.Need-sub-read-parts
+sub-read-parts c = search needs
 
-part-read-end : tie.Need-part-read-end
-part-read-end c = search needs
+part-read-parts-start : tie.Need-part-read-parts-start
+part-read-parts-start c = search needs
 
-read-requires : tie.Need-read-requires
-read-requires c κs = search needs
+part-read-parts-end : tie.Need-part-read-parts-end
+part-read-parts-end c = search needs
+
+sub-read-parts-2 : tie.Need-sub-read-parts-2
+sub-read-parts-2 c = search needs
+
+part-read-parts-start-2 : tie.Need-part-read-parts-start-2
+part-read-parts-start-2 c = search needs
+
+part-read-parts-end-2 : tie.Need-part-read-parts-end-2
+part-read-parts-end-2 c = search needs
+
+read-parts-requires : tie.Need-read-parts-requires
+read-parts-requires c κs = search needs
 
 -- the count is not too large; and what the page says
 low : (i : tie.After-ink) →
@@ -89,20 +101,21 @@ low i =
     let s = enter (o .before) in
     ink-low (s .args .bases .now) (s .args .c .0) (o .of-count .ensures) (i .ink .given .1)
 
-abbrev ink-at : tie.After-read → tie.After-ink
-ink-at r = r .before .before .before .before
+abbrev ink-at : tie.After-read-parts → tie.After-ink
+ink-at r = r .before .before .before .before .before .before
 
-abbrev enter-read : tie.After-read → tie.Start
+abbrev enter-read : tie.After-read-parts → tie.Start
 enter-read r = enter (ink-at r .before .before .before)
 
-said : (r : tie.After-read) →
+said : (r : tie.After-read-parts) →
     let s = enter-read r in
-    r .read .result ≡ CountRead.Is (record { 0 = value (s .args .bases .now) (look (s .args .page .now) (c2 (form s))) })
+    r .read-parts .result ≡ CountRead.Is (record { 0 = value (s .args .bases .now) (look (s .args .page .now) (c2 (form s))) })
 said r =
     let s = enter-read r in
-    r .read .ensures
-    ∙ read-count (form s) (s .args .page .now) (s .pre .0 .good) (s .pre .0 .long) (s .pre .0 .allows) _
-    (r .before .before .count-steps .ensures)
+    let o = r .before .before .before in
+    r .read-parts .ensures
+    ∙ read-count (form s) (s .args .page .now) (s .pre .0 .good) (s .pre .0 .long) (s .pre .0 .allows) _ _
+    (o .before .count-steps .ensures) (o .own .ensures)
 
 enum-known-x : tie.Need-enum-known-x
 enum-known-x c = search needs
@@ -172,10 +185,14 @@ begin-count-spec =
     refused-requires-2
     returns-2
     count-steps-requires
-    sub-read
-    part-read-start
-    part-read-end
-    read-requires
+    own-requires
+    sub-read-parts
+    part-read-parts-start
+    part-read-parts-end
+    sub-read-parts-2
+    part-read-parts-start-2
+    part-read-parts-end-2
+    read-parts-requires
     enum-known-x
     enum-told-2
     refused-requires-3

@@ -2,12 +2,14 @@
 use borrow.Author.Needs.{needs}
 use mathlib.Core.Path.{_≡_, ap, ap₂, _∙_}
 use mathlib.Core.List.{List}
+use mathlib.Core.Bool.{_&&_, cond}
 use Prim.Native.Nat.{ℕ, _<_}
 use native.Mathlib.Omega.{arith}
-use lib.ListN.{length, getD}
+use lib.Dec.{leb}
+use lib.ListN.{getD}
 use borrow.Author.Tests.{le-leb}
 use Rattle.radix.specs.Digits.{digits}
-use Rattle.protocol.specs.Form.{Form, formOf}
+use Rattle.protocol.specs.Form.{Form, formOf, m, own}
 use Rattle.protocol.proofs.InRange.{in-range}
 use Rattle.checks.specs.Layout.{thereAndBack}
 use Rattle.checks.proofs.Inside.{there-inside}
@@ -21,19 +23,29 @@ use Rattle.page.proofs.write_step.count_store.Tie as tie
 abbrev form : tie.Start → Form
 form s = formOf (s .args .bases .now) (s .args .format)
 
+abbrev enter : tie.After-there-and-back → tie.Start
+enter c = c .before .before .before
+
 -- the digit's place
 place : (c : tie.After-there-and-back) →
-    let s = c .before .before in
-    c .there-and-back .result ≡ thereAndBack (length (s .args .bases .now)) (s .args .w .steps)
+    let s = enter c in
+    c .there-and-back .result ≡ thereAndBack (own (form s)) (m (form s)) (s .args .w .steps)
 place c =
-    let s = c .before .before in
-    c .there-and-back .ensures ∙ rw (le-leb _ 8 (in-range (form s) (s .pre .0) .places .1))
+    let s = enter c in
+    let places = in-range (form s) (s .pre .0) .places in
+    let k = s .args .w .steps in
+    c .there-and-back .ensures
+    ∙ ap (λ o. cond (leb o 8 && leb (m (form s)) 8) (thereAndBack o (m (form s)) k) 0) (c .before .own .ensures)
+    ∙ rw (le-leb (own (form s)) 8 (omega (arith, places)), le-leb (m (form s)) 8 (places .1))
 
 inside : (c : tie.After-there-and-back) →
-    c .there-and-back .result < length (c .before .before .args .bases .now)
+    c .there-and-back .result < m (form (enter c))
 inside c =
-    let s = c .before .before in
-    omega (arith, place c, there-inside (length (s .args .bases .now)) (s .args .w .steps) (s .pre .3))
+    let s = enter c in
+    omega (arith, place c, there-inside (own (form s)) (m (form s)) (s .args .w .steps) (omega (arith, s .pre .3)) (omega arith))
+
+own-requires : tie.Need-own-requires
+own-requires c κs = search needs
 
 there-and-back-requires : tie.Need-there-and-back-requires
 there-and-back-requires c κs = search needs
@@ -44,14 +56,14 @@ count-write-requires c κs = search needs
 digit-requires : tie.Need-digit-requires
 digit-requires c κs =
     let t = c .before in
-    let s = t .before .before in
+    let s = enter t in
     omega (arith, inside t, in-range (form s) (s .pre .0) .places)
 
 returns : tie.Need-returns
 returns c =
     let w = c .before in
     let t = w .before in
-    let s = t .before .before in
+    let s = enter t in
     let k = s .args .w .steps in
     let x = s .args .w .count .0 in
     let bs = s .args .bases .now in
@@ -65,4 +77,4 @@ returns c =
 
 pub count-store-spec : {M : Type 1} → statement M
 count-store-spec =
-    tie.close (tie.spec there-and-back-requires count-write-requires digit-requires returns)
+    tie.close (tie.spec own-requires there-and-back-requires count-write-requires digit-requires returns)

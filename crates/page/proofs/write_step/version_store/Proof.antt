@@ -33,19 +33,19 @@ enter t = t .before .before .before .before
 -- the digit's place
 place : (t : tie.After-there-and-back) →
     let s = enter t in
-    t .there-and-back .result ≡ thereAndBack (s .args .format .q) (versionDigits (form s) (s .args .w .steps))
+    t .there-and-back .result ≡ thereAndBack (s .args .format .q) (s .args .format .q) (versionDigits (form s) (s .args .w .steps))
 place t =
     let s = enter t in
     let q = s .args .format .q in
     t .there-and-back .ensures
     ∙ rw (le-leb q 8 (omega (arith, in-range (form s) (s .pre .0) .versions)))
-    (ap (thereAndBack q) (t .before .version-digits .ensures ∙ of-small (form s) _ (s .pre .0)))
+    (ap (thereAndBack q q) (t .before .version-digits .ensures ∙ of-small (form s) _ (s .pre .0)))
 
 -- what the step is of
 step : (s : tie.Start) →
     (versionDigits (form s) (s .args .w .steps) < s .args .format .q + s .args .format .q)
     × (getD (digits (versionBases (form s)) (s .args .w .version .0))
-    (thereAndBack (s .args .format .q) (versionDigits (form s) (s .args .w .steps))) 0
+    (thereAndBack (s .args .format .q) (s .args .format .q) (versionDigits (form s) (s .args .w .steps))) 0
     ≡ getD (recordDigits (form s) (s .args .w .version) (recordAt (form s) (s .args .records .now) (s .args .w .index)))
     (s .args .w .steps) 0)
 step s =
@@ -60,7 +60,7 @@ inside t =
     omega (
       arith,
       place t,
-      there-inside (s .args .format .q) (versionDigits (form s) (s .args .w .steps)) (step s .0),
+      there-inside (s .args .format .q) (s .args .format .q) (versionDigits (form s) (s .args .w .steps)) (step s .0) (omega arith),
     )
 
 version-digits-requires : tie.Need-version-digits-requires

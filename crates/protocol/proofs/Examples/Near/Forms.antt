@@ -8,7 +8,7 @@ use Rattle.protocol.specs.Form.{Form, goodForm}
 
 -- m places of base b; q, version base, n, readers
 abbrev pub form : (m b q base n readers : ℕ) → Form
-form m b q base n r = record { bases = replicate m b; q = q; base = base; n = n; readers = r }
+form m b q base n r = record { bases = replicate m b; shared = 0; q = q; base = base; n = n; readers = r }
 
 unfoldable pub good : List Form → List Bool
 unfolding goodForm

@@ -1,7 +1,7 @@
 -- Refusal 3: each thing that no steps could have left, alone, beside what they could.
 use mathlib.Core.Path.{_≡_, refl}
 use mathlib.Core.List.{List, [], _∷_, _++_, map}
-use Prim.Native.Nat.{ℕ}
+use Prim.Native.Nat.{ℕ, _*_}
 use lib.ListN.{set, replicate}
 use Rattle.protocol.specs.Form.{Form}
 use Rattle.protocol.specs.Memory.{stageAt, readerOf}
@@ -14,23 +14,24 @@ use Rattle.protocol.proofs.Examples.Near.Starts.{restingWriter, idleRea
 
 -- 200 counts, of two places with the bases 10 and 20; 100 versions of two places; records of two bytes; two readers
 abbrev pub pair : Form
-pair = record { bases = 10 ∷ 20 ∷ []; q = 2; base = 10; n = 2; readers = 2 }
+pair = record { bases = 10 ∷ 20 ∷ []; shared = 0; q = 2; base = 10; n = 2; readers = 2 }
 
 abbrev pub page : List ℕ
 page = 1 ∷ 2 ∷ 1 ∷ 2 ∷ 0 ∷ 0 ∷ 61 ∷ 62 ∷ 0 ∷ 0 ∷ []
 
 -- the number that a run of nothing answers, over two records
-unfoldable pub tried : List ℕ → Writer → List Reader → ℕ
+unfoldable pub tried : Form → List ℕ → Writer → List Reader → ℕ
 unfolding ran
-tried p w rs =
+tried F p w rs =
     endingNumber
-    (run pair (71 ∷ 72 ∷ 81 ∷ 82 ∷ []) (record { page = p; writer = w; readers = rs; buffers = replicate 4 255 })
+    (run F (replicate (2 * F .n) 71)
+    (record { page = p; writer = w; readers = rs; buffers = replicate (F .readers * F .n) 255 })
     (record { given = []; log = [] }) .ending)
 
 -- THE PAGE: position k has the byte d
 
 abbrev pub pages : List (ℕ × ℕ) → List ℕ
-pages kds = map (λ (kd : ℕ × ℕ). tried (set page (kd .0) (kd .1)) restingWriter (idleReader ∷ idleReader ∷ [])) kds
+pages kds = map (λ (kd : ℕ × ℕ). tried pair (set page (kd .0) (kd .1)) restingWriter (idleReader ∷ idleReader ∷ [])) kds
 
 -- the largest digit of each place, and bytes of the record
 pub good-pages : pages
@@ -50,7 +51,7 @@ abbrev pub writer : (kind c v i k : ℕ) → Writer
 writer x c v i k = record { kind = x; count = count c; version = version v; index = i; steps = k }
 
 abbrev pub writers : List Writer → List ℕ
-writers ws = map (λ w. tried page w (idleReader ∷ idleReader ∷ [])) ws
+writers ws = map (λ w. tried pair page w (idleReader ∷ idleReader ∷ [])) ws
 
 pub good-writers : writers
     (writer 0 0 0 0 0
@@ -93,7 +94,7 @@ reader x a f k a₁ a₀ b₁ b₀ = readerOf (stageAt x a f k) (a₁ ∷ a₀ �
 
 -- as the last reader
 abbrev pub readers : List Reader → List ℕ
-readers rs = map (λ r. tried page restingWriter (idleReader ∷ r ∷ [])) rs
+readers rs = map (λ r. tried pair page restingWriter (idleReader ∷ r ∷ [])) rs
 
 pub good-readers : readers
     (reader 0 0 0 0 0 0 0 0
@@ -162,7 +163,7 @@ bad-attempting = refl
 
 -- digits past the places: position k of sixteen is 1
 pub bad-past :
-    map (λ k. tried page restingWriter (readerOf (stageAt 1 0 0 3) (set (replicate 16 0) k 1) ∷ idleReader ∷ []))
+    map (λ k. tried pair page restingWriter (readerOf (stageAt 1 0 0 3) (set (replicate 16 0) k 1) ∷ idleReader ∷ []))
     (2 ∷ 7 ∷ 10 ∷ 15 ∷ []) ≡ replicate 4 3
 unfolding tried
 bad-past = refl

@@ -13,7 +13,7 @@ use Rattle.protocol.proofs.Examples.Common.{count, version, lent, ran}
 
 -- one count place, records of two bytes, one reader: a page of six bytes; q as told
 abbrev pub one : (q : ℕ) → Form
-one q = record { bases = 10 ∷ []; q = q; base = 10; n = 2; readers = 1 }
+one q = record { bases = 10 ∷ []; shared = 0; q = q; base = 10; n = 2; readers = 1 }
 
 abbrev pub restingWriter : Writer
 restingWriter = record { kind = 0; count = count 0; version = version 0; index = 0; steps = 0 }

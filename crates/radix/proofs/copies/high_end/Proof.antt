@@ -5,10 +5,9 @@ use Prim.Native.Nat.{ℕ, suc, _+_}
 use native.Mathlib.Omega.{arith}
 use native.Mathlib.Numerals.{add-one}
 use lib.Seq.{length-take-le}
-use Rattle.radix.proofs.Theorems.RoundTrip.{valid-sound, length-valid}
 use Rattle.radix.proofs.Numbers.Bases.{good-take, lent-few}
 use Rattle.radix.proofs.Numbers.Places.{lent-rest}
-use Rattle.radix.proofs.Parting.Ends.{kept-valid, zeros-after, ends-fit}
+use Rattle.radix.proofs.Parting.Sharing.{begun-valid, begun-zeros, begun-fits}
 use Rattle.radix.proofs.copies.high_end.Statement.{statement}
 use Rattle.radix.proofs.copies.high_end.Tie as tie
 
@@ -19,17 +18,14 @@ slice-aggregate-horner : tie.Need-slice-aggregate-horner
 slice-aggregate-horner c = sym (length-take-le _ _ (omega arith))
 
 slice-aggregate-horner-2 : tie.Need-slice-aggregate-horner-2
-slice-aggregate-horner-2 c =
-    let s = c .before .before .before .before in
-    let v = length-valid (valid-sound (s .args .bases .now) (s .args .b .now) (s .pre .1)) in
-    sym (length-take-le _ _ (omega arith))
+slice-aggregate-horner-2 c = sym (length-take-le _ _ (omega arith))
 
 horner-requires : tie.Need-horner-requires
 horner-requires c κs =
     let s = c .before .before .before .before in
     let b = s .args .bases .now in
     let k = s .args .p + 1 in
-    (good-take k b (s .pre .0), kept-valid k b (s .args .b .now) (s .pre .1))
+    (good-take k b (s .pre .0), begun-valid k b (s .args .b .now) (s .pre .0) (s .pre .1) (omega arith) (omega arith))
 
 mul-weight : tie.Need-mul-weight
 mul-weight c = search needs
@@ -54,8 +50,11 @@ mul-high c =
     let s = c .before .before .before .before .before .before .before in
     let b = s .args .bases .now in
     let k = s .args .p + 1 in
-    let f = ends-fit k b (s .args .b .now) (s .pre .1) (s .pre .0) in
-    record { fits = rw (h .horner .ensures, c .weight .ensures, lent-rest k b) (omega arith) }
+    record {
+      fits =
+          rw (h .horner .ensures, c .weight .ensures, lent-rest k b)
+          (begun-fits k b (s .args .b .now) (s .pre .0) (s .pre .1) (omega arith) (omega arith));
+    }
 
 returns : tie.Need-returns
 returns c =
@@ -64,7 +63,8 @@ returns c =
     let b = s .args .bases .now in
     let p = s .args .p in
     rw (h .horner .ensures, c .weight .ensures, lent-rest (p + 1) b, add-one p)
-    (ap (λ (x : ℕ). record { 0 = x }) (zeros-after (suc p) b (s .args .b .now) (s .pre .1)))
+    (ap (λ (x : ℕ). record { 0 = x })
+    (begun-zeros (suc p) b (s .args .b .now) (s .pre .0) (s .pre .1) (omega arith) (omega arith)))
 
 pub high-end-spec : {M : Type 1} → statement M
 high-end-spec =
