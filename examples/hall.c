@@ -10,7 +10,7 @@
 
 enum { M = 2, Q = 1, N = 8, READERS = 2 };
 
-static const lagumtay_format format = {.q = Q, .base = 256, .n = N, .readers = READERS};
+static const lagumtay_format format = {.q = Q, .base = 256, .layout = LAGUMTAY_PLAIN, .n = N, .readers = READERS};
 static const uint16_t bases[M] = {24, 60}; /* hours and minutes */
 static const char *records = "batch 17batch 18";
 

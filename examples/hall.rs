@@ -2,7 +2,7 @@
 //!
 //!     cargo run --manifest-path bindings/rust/Cargo.toml --example hall
 use lagumtay::Command::*;
-use lagumtay::{commands, Command, Count, Entry, Format, Page, Refusal, Version};
+use lagumtay::{commands, Command, Count, Entry, Format, Layout, Page, Refusal, Version};
 
 /// A count in hours and minutes.
 fn time(Count(count): Count) -> String {
@@ -41,6 +41,7 @@ fn main() -> Result<(), Refusal> {
         bases: vec![24, 60],
         q: 1,
         base: 256,
+        layout: Layout::Plain,
         n: 8,
         readers: 2,
     };

@@ -19,17 +19,24 @@
 extern "C" {
 #endif
 
-/* The numbers of a page but for the m count bases, which are lent beside it: q version places of this base, n bytes of
- * record, so many readers. m is 1 to 8, q 1 to 4, n 1 to 256, readers 1 to 16, every base 2 to 256.
+/* The layouts of a page. Plain: the count stands on it twice, as c1 and c2 of m digits each. Folded: the last digits of
+ * c1 and c2 are one digit, which is written once and read once, so that each has m - 1 digits of its own. */
+enum lagumtay_layout { LAGUMTAY_PLAIN = 0, LAGUMTAY_FOLDED = 1 };
+
+/* The numbers of a page but for the m count bases, which are lent beside it: q version places of this base, the layout,
+ * n bytes of record, so many readers. m is 1 to 8, q 1 to 4, n 1 to 256, readers 1 to 16, every base 2 to 256; the
+ * layout is one of the two.
  * crates/protocol/specs/Form.antt, `goodForm`. */
 typedef struct {
     size_t q;
     uint16_t base;
+    uint16_t layout;
     size_t n;
     size_t readers;
 } lagumtay_format;
 
-/* The writer's state. kind 0: nothing pending; 1: a count; 2: a record. Fields that the kind does not use are zero.
+/* The writer's state. kind 0: nothing pending; 1: a count; 2: a record. Steps are those taken of the pending write; a
+ * count write has 2m of them, on a folded page 2m - 1. Fields that the kind does not use are zero.
  * crates/protocol/specs/Memory.antt, `storedWriting`. */
 typedef struct {
     uint64_t count;
@@ -39,9 +46,11 @@ typedef struct {
     uint32_t kind;
 } lagumtay_writer;
 
-/* A reader's state. kind 0: idle; 1: a count read; 2: a record read. Digits gathered of c1 (or v2) stand from
- * digits[0] on, those of c2 (or v1) from digits[8] on; those not gathered, and fields that the kind does not use, are
- * zero. The five bytes before steps are padding and hold nothing; no promise speaks of them.
+/* A reader's state. kind 0: idle; 1: a count read; 2: a record read. Steps are those taken of the count read, which has
+ * as many as a count write, or of the attempt. Digits gathered of c1 (or v2) stand from digits[0] on, those of c2 (or
+ * v1) from digits[8] on; those not gathered, and fields that the kind does not use, are zero. The shared digit of a
+ * folded page stands with those of c1, at digits[m - 1]: digits[8 + m - 1] is zero there. The five bytes before steps
+ * are padding and hold nothing; no promise speaks of them.
  * crates/protocol/specs/Memory.antt, `storedReading`. */
 typedef struct {
     uint8_t kind;
@@ -85,7 +94,7 @@ typedef struct {
     uint64_t high;
 } lagumtay_outcome;
 
-/* The archive was built with this layout. */
+/* The archive was built with these sizes and offsets. */
 #ifdef __cplusplus
 #define LAGUMTAY_ASSERT(condition) static_assert(condition, #condition)
 #else
@@ -95,6 +104,7 @@ LAGUMTAY_ASSERT(sizeof(size_t) == 8);
 LAGUMTAY_ASSERT(sizeof(lagumtay_format) == 32);
 LAGUMTAY_ASSERT(offsetof(lagumtay_format, q) == 0);
 LAGUMTAY_ASSERT(offsetof(lagumtay_format, base) == 8);
+LAGUMTAY_ASSERT(offsetof(lagumtay_format, layout) == 10);
 LAGUMTAY_ASSERT(offsetof(lagumtay_format, n) == 16);
 LAGUMTAY_ASSERT(offsetof(lagumtay_format, readers) == 24);
 LAGUMTAY_ASSERT(sizeof(lagumtay_writer) == 32);
@@ -138,7 +148,7 @@ enum lagumtay_refusal {
                                         are no multiple of n; the packed bytes are not 27 for each reader */
     LAGUMTAY_INVALID_STATE = 3,      /* a digit at or above its base, or a state that no steps could hold */
     LAGUMTAY_COUNT_TOO_LARGE = 4,    /* a count not below the product of the bases */
-    LAGUMTAY_COUNT_DECREASES = 5,    /* a count below the one in c2 */
+    LAGUMTAY_COUNT_DECREASES = 5,    /* a count below the one in c2, to which a shared digit belongs */
     LAGUMTAY_BUSY = 6,               /* a write is pending, or this reader has a read unfinished */
     LAGUMTAY_NOTHING_PENDING = 7,    /* a step or cancel with none to do */
     LAGUMTAY_NO_SUCH = 8,            /* reader or record beyond the last, or 0 attempts */
@@ -152,7 +162,8 @@ enum lagumtay_refusal {
 /* Open a page: the first count in both copies, version 0 in v1 and v2, the first record; nothing pending, all readers
  * idle, all buffers zero. What was lent before does not matter. It checks 1, 2 and 4 only; a refused opening changes
  * nothing.
- *   page     2m + 2q + n bytes: c1 (m digits), c2 (m), v1 (q), the record (n), v2 (q)
+ *   page     plain, 2m + 2q + n bytes: c1 (m digits), c2 (m), v1 (q), the record (n), v2 (q)
+ *            folded, 2m - 1 + 2q + n bytes: c1's own digits (m - 1), the shared digit, c2's own (m - 1), v1, record, v2
  *   readers  as many as the format says
  *   buffers  n bytes for each reader, one after the other
  *   record   n bytes
@@ -165,7 +176,8 @@ uint8_t lagumtay_open(const lagumtay_format *format, const uint16_t *bases, size
 /* Carry out commands in order, up to the first that is refused. The refused one has changed nothing, the ones before it
  * have been carried out; the answer tells how many, how many bytes of the log are written, and how many bytes the
  * commands carried out have. The other bytes of the log keep their contents. Refusals 1 to 3 are checked once at the
- * start: then nothing at all has changed and all numbers of the answer are 0.
+ * start: then nothing at all has changed and all numbers of the answer are 0. A count write goes over c2 left to right,
+ * then over c1 right to left, and a count read the other way; the shared digit of a folded page is one step of either.
  *   records   the lent records, n bytes each; there may be none. Each run may bring new ones while no record write is
  *             pending; while one is (writer kind 2), the record at the writer's index stays the one that was announced
  *   commands  a byte of kind, then its body; longer numbers are high byte first

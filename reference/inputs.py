@@ -2,12 +2,13 @@
 """Make inputs of `runlist` from a seed: good schedules, refused ones and damaged ones. `make(seed)` gives the bytes, the same
 for a seed on every Python from 3.5 on (only `randrange` is drawn from), and `kind(seed)` the name of its kind. The functions
 that spell header and commands serve the hand-made cases too. Good schedules are grown by carrying each command out on the
-reference page as it is chosen, so that they make progress. `inputs.py SEED` writes one input to standard output."""
+reference page as it is chosen, so that they make progress. Some kinds are told a layout: a count takes another number of steps
+on a folded page. `inputs.py SEED` writes one input to standard output."""
 
 import random
 import sys
 
-from runlist import BODY_LENGTH, MOST_INPUT, Form, Page, number, product
+from runlist import BODY_LENGTH, MOST_INPUT, PLAIN, Form, Page, number, product
 
 # Spelling of header and commands.
 
@@ -70,12 +71,12 @@ def some_bytes(rng, length):
     return bytes(rng.randrange(256) for _ in range(length))
 
 
-def some_form(rng, m=None, bases=None, q=None, version_base=None, n=None, readers=None):
+def some_form(rng, m=None, bases=None, q=None, version_base=None, n=None, readers=None, layout=PLAIN):
     """A form with what is given, and the rest drawn so that small numbers and the ends of the ranges are frequent."""
     most = pick(rng, (2, 3, 10, 60, 256))
     bases = bases or [between(rng, 2, most) for _ in range(m or between(rng, 1, pick(rng, (1, 3, 3, 8))))]
     return Form(bases, q or between(rng, 1, pick(rng, (1, 2, 4))), version_base or pick(rng, (2, 3, 10, 255, 256)),
-                n or pick(rng, (1, 2, 3, 3, 5, 8, between(rng, 1, 40))), readers or pick(rng, (1, 2, 3, 3, 4, 16)))
+                n or pick(rng, (1, 2, 3, 3, 5, 8, between(rng, 1, 40))), readers or pick(rng, (1, 2, 3, 3, 4, 16)), layout)
 
 
 class Schedule:
@@ -173,15 +174,16 @@ class Schedule:
 # The kinds of inputs. Each function takes the random source and gives an input.
 
 
-def count_race(rng):
+def count_race(rng, layout=PLAIN):
     """Count reads meet count writes that carry."""
-    form = some_form(rng, bases=[between(rng, 2, pick(rng, (2, 3, 10))) for _ in range(between(rng, 2, 5))], n=1)
+    bases = [between(rng, 2, pick(rng, (2, 3, 10))) for _ in range(between(rng, 2, 5))]
+    form = some_form(rng, bases=bases, n=1, layout=layout)
     return Schedule(rng, form).grow(between(rng, 10, pick(rng, (60, 120, 400))), 0).bytes()
 
 
-def wide_race(rng):
+def wide_race(rng, layout=PLAIN):
     """Count reads of the widest counts meet count writes: eight places of base 256."""
-    form = some_form(rng, bases=[256] * 8, n=1, readers=between(rng, 1, 3))
+    form = some_form(rng, bases=[256] * 8, n=1, readers=between(rng, 1, 3), layout=layout)
     return Schedule(rng, form).grow(between(rng, 20, pick(rng, (60, 120, 400))), 0).bytes()
 
 
@@ -191,20 +193,20 @@ def record_race(rng):
     return Schedule(rng, form).grow(between(rng, 10, pick(rng, (60, 150, 400))), 4, writes=between(rng, 2, 6)).bytes()
 
 
-def mixed(rng):
+def mixed(rng, layout=PLAIN):
     """Both sorts of reads and writes by all readers."""
-    schedule = Schedule(rng, some_form(rng)).grow(between(rng, 1, pick(rng, (20, 120, 400))), 2)
+    schedule = Schedule(rng, some_form(rng, layout=layout)).grow(between(rng, 1, pick(rng, (20, 120, 400))), 2)
     if rng.randrange(2):
         schedule.finish_write()
         schedule.finish_reads()
     return schedule.bytes()
 
 
-def large_form(rng):
+def large_form(rng, layout=PLAIN):
     """Many places, bases up to 256, long records, many readers."""
     bases = [pick(rng, (256, 256, 255, between(rng, 2, 256))) for _ in range(between(rng, 6, 8))]
     form = some_form(rng, bases=bases, q=between(rng, 3, 4), version_base=pick(rng, (255, 256, between(rng, 2, 256))),
-                     n=pick(rng, (255, 256, between(rng, 40, 256))), readers=between(rng, 8, 16))
+                     n=pick(rng, (255, 256, between(rng, 40, 256))), readers=between(rng, 8, 16), layout=layout)
     return Schedule(rng, form, size=between(rng, 1, 2)).grow(between(rng, 10, 100), 2).bytes()
 
 
@@ -248,9 +250,9 @@ def schedule_tail(rng):
     return pick(rng, (b"", WRITER, step(0), read_count(0) + step(0) * 2, some_bytes(rng, 3)))
 
 
-def refused(rng):
+def refused(rng, layout=PLAIN):
     """A good schedule, a command that is refused, and something after it."""
-    form = some_form(rng)
+    form = some_form(rng, layout=layout)
     schedule = Schedule(rng, form).grow(between(rng, 0, 40), 2)
     page, reader = schedule.page, rng.randrange(form.readers)
     refusal = pick(rng, (4, 5, 6, 7, 8, 11))
@@ -298,9 +300,9 @@ def refused(rng):
     return schedule.bytes() + command + schedule_tail(rng)
 
 
-def two_refusals(rng):
+def two_refusals(rng, layout=PLAIN):
     """A command to which two refusals apply; the order of the checks decides."""
-    form = some_form(rng, q=1, version_base=2)
+    form = some_form(rng, q=1, version_base=2, layout=layout)
     schedule = Schedule(rng, form).grow(between(rng, 0, 10), 2)
     page, reader, absent = schedule.page, rng.randrange(form.readers), between(rng, form.readers, 255)
     if not page.stores:

@@ -1,7 +1,8 @@
 #!/usr/bin/env python3
 """Print the run of a schedule, as the program `runlist` must. This is a second implementation in plain Python, written from
 documents 01 and 02 alone; it shares nothing with the proved code, so that a fault in one is seen against the other. It reads
-standard input; `printed` does the same for bytes in memory."""
+standard input; `printed` does the same for bytes in memory. The program has plain pages only; the page here can be folded
+too, for those who name that layout."""
 
 import sys
 from collections import deque, namedtuple
@@ -9,8 +10,9 @@ from collections import deque, namedtuple
 MOST_INPUT = 65536
 BODY_LENGTH = {1: 8, 2: 2, 3: 0, 4: 1, 5: 2, 6: 1, 7: 1}  # by the command's kind
 WRITE_COUNT, WRITE_RECORD, WRITER_STEP, READ_COUNT, READ_RECORD, READER_STEP, CANCEL = range(1, 8)
+PLAIN, FOLDED = range(2)  # the layouts
 
-Form = namedtuple("Form", "bases q version_base n readers")
+Form = namedtuple("Form", "bases q version_base n readers layout")
 
 
 class Refusal(Exception):
@@ -66,8 +68,23 @@ def ends(a, b, bases):
     return [value(low, bases), value(high, bases)]
 
 
+class Cell:
+    """A byte of the page. On a folded page one cell is the last of both copies."""
+
+    def __init__(self, byte):
+        self.byte = byte
+
+
+def cells(data):
+    return [Cell(byte) for byte in data]
+
+
+def held(row):
+    return [cell.byte for cell in row]
+
+
 class Read:
-    """An unfinished read: the page bytes still to be loaded, each with the place that takes it."""
+    """An unfinished read: the cells still to be loaded, each with the places that take its byte."""
 
     def __init__(self, allowed):
         self.allowed = allowed  # attempts; 0 marks a count read
@@ -83,18 +100,24 @@ class Page:
         self.version_bases = [form.version_base] * form.q
         self.most_counts, self.most_versions = product(form.bases), product(self.version_bases)
         need(count < self.most_counts, 4)
-        self.c1, self.c2 = digits_of(count, form.bases), digits_of(count, form.bases)
-        self.v1, self.v2 = [0] * form.q, [0] * form.q
-        self.record = list(record)
-        self.stores = deque()  # what the write in progress has still to put on the page
+        self.c1, self.c2 = cells(digits_of(count, form.bases)), cells(digits_of(count, form.bases))
+        if form.layout == FOLDED:
+            self.c2[-1] = self.c1[-1]
+        self.v1, self.v2 = cells(bytes(form.q)), cells(bytes(form.q))
+        self.record = cells(record)
+        self.stores = deque()  # the cells that the write in progress has still to fill, each with its byte
         self.reads = [None] * form.readers
         self.buffers = [bytearray(form.n) for _ in range(form.readers)]
 
+    def bytes(self):
+        own = [cell for cell in self.c2 if cell is not self.c1[-1]]
+        return bytes(held(self.c1 + own + self.v1 + self.record + self.v2))
+
     def count(self):
-        return value(self.c2, self.form.bases)
+        return value(held(self.c2), self.form.bases)
 
     def version(self):
-        return value(self.v1, self.version_bases)
+        return value(held(self.v1), self.version_bases)
 
     def carry_out(self, kind, body):
         """Carry out one whole command; give the line that it prints, or None."""
@@ -104,8 +127,8 @@ class Page:
             return self.begin_record_write(number(body))
         if kind == WRITER_STEP:
             need(self.stores, 7)
-            target, i, byte = self.stores.popleft()
-            target[i] = byte
+            cell, byte = self.stores.popleft()
+            cell.byte = byte
             return None
         reader = body[0]
         need(reader < self.form.readers, 8)
@@ -125,19 +148,18 @@ class Page:
         need(count < self.most_counts, 4)
         need(count >= self.count(), 5)
         digits = digits_of(count, self.form.bases)
-        places = range(len(digits))
-        self.stores.extend((self.c2, i, digits[i]) for i in places)
-        self.stores.extend((self.c1, i, digits[i]) for i in reversed(places))
+        self.stores.extend(zip(self.c2, digits))
+        # The cell that the copies share was just filled, as the last of c2.
+        self.stores.extend((cell, byte) for cell, byte in zip(self.c1[::-1], digits[::-1]) if cell is not self.c2[-1])
 
     def begin_record_write(self, index):
         need(index < len(self.records), 8)
         need(not self.stores, 6)
         need(self.version() < self.most_versions - 1, 9)
         digits = digits_of(self.version() + 1, self.version_bases)
-        places = range(len(digits))
-        self.stores.extend((self.v1, i, digits[i]) for i in places)
-        self.stores.extend((self.record, i, byte) for i, byte in enumerate(self.records[index]))
-        self.stores.extend((self.v2, i, digits[i]) for i in reversed(places))
+        self.stores.extend(zip(self.v1, digits))
+        self.stores.extend(zip(self.record, self.records[index]))
+        self.stores.extend(zip(self.v2[::-1], digits[::-1]))
 
     def begin_read(self, reader, allowed):
         self.reads[reader] = read = Read(allowed)
@@ -146,20 +168,23 @@ class Page:
         else:
             places = range(len(self.form.bases))
             read.a, read.b = [0] * len(places), [0] * len(places)
-            read.loads.extend((self.c1, i, read.a) for i in places)
-            read.loads.extend((self.c2, i, read.b) for i in reversed(places))
+            for i in places:  # a digit that the copies share is one of a and one of b, and is loaded once
+                both = [read.a, read.b] if self.c1[i] is self.c2[i] else [read.a]
+                read.loads.append((self.c1[i], i, both))
+            read.loads.extend((self.c2[i], i, [read.b]) for i in reversed(places) if self.c2[i] is not self.c1[i])
 
     def begin_attempt(self, reader):
         read, places = self.reads[reader], range(self.form.q)
         read.v1, read.v2 = [0] * self.form.q, [0] * self.form.q
-        read.loads.extend((self.v2, i, read.v2) for i in places)
-        read.loads.extend((self.record, i, self.buffers[reader]) for i in range(self.form.n))
-        read.loads.extend((self.v1, i, read.v1) for i in reversed(places))
+        read.loads.extend((self.v2[i], i, [read.v2]) for i in places)
+        read.loads.extend((cell, i, [self.buffers[reader]]) for i, cell in enumerate(self.record))
+        read.loads.extend((self.v1[i], i, [read.v1]) for i in reversed(places))
 
     def reader_step(self, reader):
         read = self.reads[reader]
-        source, i, target = read.loads.popleft()
-        target[i] = source[i]
+        cell, i, targets = read.loads.popleft()
+        for target in targets:
+            target[i] = cell.byte
         if read.loads:
             return None
         if not read.allowed:
@@ -178,8 +203,9 @@ class Page:
         return "G %d %d" % (reader, read.finished)
 
 
-def opened(data):
-    """Check the header in document 01's order; give the opened page and where the commands begin."""
+def opened(data, layout=PLAIN):
+    """Check the header in document 01's order; give the opened page and where the commands begin. No header tells the
+    layout."""
     need(len(data) <= MOST_INPUT, 2)
     need(not data or 1 <= data[0] <= 8, 1)
     need(data and len(data) >= 2 * data[0] + 7, 2)
@@ -191,7 +217,7 @@ def opened(data):
         return data[at - length:at]
 
     bases = [number(take(2)) for _ in range(data[0])]
-    form = Form(bases, number(take(1)), number(take(2)), number(take(2)), number(take(1)))
+    form = Form(bases, number(take(1)), number(take(2)), number(take(2)), number(take(1)), layout)
     need(all(2 <= base <= 256 for base in bases + [form.version_base]), 1)
     need(1 <= form.q <= 4 and 1 <= form.n <= 256 and 1 <= form.readers <= 16, 1)
     need(len(data) >= at + 8 + form.n + 2, 2)
@@ -220,10 +246,10 @@ def run(page, commands):
     return lines, done, 0
 
 
-def printed(data):
-    """All that `runlist` prints for this standard input."""
+def printed(data, layout=PLAIN):
+    """All that `runlist` prints for this standard input; and what it would print if its pages were folded."""
     try:
-        page, at = opened(data)
+        page, at = opened(data, layout)
     except Refusal as refusal:
         return "END 0 %d\n" % refusal.number
     lines, done, refusal = run(page, data[at:])

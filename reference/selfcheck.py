@@ -2,19 +2,22 @@
 """Check the reference itself: against the run, the edges and the trap of document 01, with both ends as document 02 wants
 them; against two small oracles that know no page but only which store came last before which load, over all interleavings of
 small forms; against the history that the commands alone tell, over generated inputs; and that the generator reaches every
-refusal and every sort of ending. Prints what was checked; the exit status is 1 if anything fails."""
+refusal and every sort of ending. Counts are checked on plain and on folded pages. Prints what was checked; the exit status is
+1 if anything fails."""
 
 import sys
 from collections import Counter
 from itertools import combinations_with_replacement
 from pathlib import Path
 
+import folded
 import inputs
 import runlist
 from inputs import DOCUMENT_RUN, WRITER, header, read_count, read_record, step, write_count, write_record
-from runlist import BODY_LENGTH, Refusal, digits_of, opened, printed, product, run
+from runlist import BODY_LENGTH, FOLDED, PLAIN, Refusal, digits_of, opened, printed, product, run
 
 EXAMPLES = Path(__file__).resolve().parent.parent / "examples"
+NAMES = {PLAIN: "plain pages", FOLDED: "folded pages"}
 failures = 0
 
 
@@ -30,14 +33,20 @@ def same(found, expected, what):
     check(found == expected, "%s: %r, not %r" % (what, found, expected))
 
 
+def count_steps(bases, layout):
+    """The steps of a count write or read: document 02 folds two digits, and so two steps, into one."""
+    return 2 * len(bases) - (1 if layout == FOLDED else 0)
+
+
 # Documents 01 and 02.
 
 
-def read_of(bases, a, b):
+def read_of(bases, a, b, layout=PLAIN):
     """What a count read prints, and how it ends, on a page whose copies hold a and b. No schedule brings them to cross."""
-    page, _ = opened(header(bases))
-    page.c1[:], page.c2[:] = a, b
-    return run(page, read_count(0) + step(0) * 2 * len(bases))
+    page, _ = opened(header(bases), layout)
+    for cell, digit in zip(page.c1 + page.c2, a + b):
+        cell.byte = digit
+    return run(page, read_count(0) + step(0) * count_steps(bases, layout))
 
 
 def document():
@@ -53,13 +62,22 @@ def document():
         steps = 2 * len(bases)
         expected = ([line], 1 + steps, 0) if line else ([], steps, 10)
         same(read_of(bases, a, b), expected, "edge a = %s, b = %s" % (a, b))
+    shared = (([10] * 3, [0, 0, 9], [1, 0, 9], "B 0 99 100"), ([10] * 3, [1, 4, 8], [1, 5, 8], "B 0 149 150"),
+              ([24, 60], [11, 57], [11, 57], "C 0 717"), ([24, 60], [12, 4], [11, 4], None), ([10], [7], [7], "C 0 7"))
+    for bases, a, b, line in shared:
+        steps = count_steps(bases, FOLDED)
+        expected = ([line], 1 + steps, 0) if line else ([], steps, 10)
+        same(read_of(bases, a, b, FOLDED), expected, "folded edge a = %s, b = %s" % (a, b))
+    page, _ = opened(header([10] * 3, n=2, count=123, first=b"ab"), FOLDED)
+    same(page.bytes(), bytes([1, 2, 3, 1, 2, 0]) + b"ab" + bytes([0]), "a folded page")
     same(digits_of(9, [10]), [9], "digit of 9")
     same(printed(header(count=10)), "END 0 4\n", "count 10 with base 10")
     same(digits_of(2**64 - 1, [256] * 8), [255] * 8, "digits of the last count")
     top = header(records=[b"x"]) + (write_record(0) + WRITER * 3) * 9
     same(printed(top), "END 36 0\n", "version 9 with base 10")
     same(printed(top + write_record(0)), "END 36 9\n", "version 10 with base 10")
-    print("documents: the printed run, the empty input, the trap, %d edges of the comparison, 5 of the numbers" % len(edges))
+    print("documents: the printed run, the empty input, the trap, %d edges of the comparison and %d of folded pages, 5 of the "
+          "numbers" % (len(edges), len(shared)))
 
 
 # Oracles. Write j = 1, 2, ... takes the writer's steps from (j - 1) * w + 1 to j * w. What a load finds after s steps of the
@@ -73,12 +91,12 @@ def writes_stored(s, k, w):
 
 def told(found, bases):
     """What a count read must print after its reader, if its loads found digits of the counts `found`, in this order; and the
-    place in which a and b part, or None. It is told by whole numbers: `weight` counts begin alike up to a place, and of
+    place in which a and b part, or None. The first m loads are a, from the left, and the last m are b, from the right: one of
+    them is both if there are 2m - 1. It is told by whole numbers: `weight` counts begin alike up to a place, and of
     those that begin as a does the low end is the last, of those that begin as b does the high end is the first."""
-    m = len(bases)
-    weights = [product(bases[i + 1:]) for i in range(m)]
+    weights = [product(bases[i + 1:]) for i in range(len(bases))]
     a, b = (sum(count // weight % base * weight for count, weight, base in zip(counts, weights, bases))
-            for counts in (found[:m], found[:m - 1:-1]))
+            for counts in (found, found[::-1]))
     for place, weight in enumerate(weights):
         if a // weight != b // weight:
             return [(a // weight + 1) * weight - 1, b // weight * weight], place
@@ -87,7 +105,7 @@ def told(found, bases):
 
 def count_oracle(bases, counts, times):
     """What a read must tell whose loads come after times[0], times[1], ... steps of the writer."""
-    w = 2 * len(bases)  # a read loads in the reverse order of stores
+    w = len(times)  # a read loads in the reverse order of stores
     return told([counts[writes_stored(s, w - i, w)] for i, s in enumerate(times)], bases)
 
 
@@ -111,31 +129,34 @@ def schedule(writes, w, times):
     out, taken = b"", 0
     for s in range(len(writes) * w + 1):
         if s:
-            out += (writes[(s - 1) // w] if s % w == 1 else b"") + WRITER
+            out += (writes[(s - 1) // w] if (s - 1) % w == 0 else b"") + WRITER
         while taken < len(times) and times[taken] == s:
             out += step(0)
             taken += 1
     return out
 
 
-def count_reads(bases, writes):
+def count_reads(bases, writes, layout):
     """All interleavings of a count read with so many count writes, for all counts."""
-    w, runs, ended = 2 * len(bases), 0, Counter()
+    w, runs, ended = count_steps(bases, layout), 0, Counter()
     for counts in combinations_with_replacement(range(product(bases)), writes + 1):
         commands = [write_count(count) for count in counts[1:]]
         for times in combinations_with_replacement(range(writes * w + 1), w):
-            out = printed(header(bases, count=counts[0]) + read_count(0) + schedule(commands, w, times))
+            out = printed(header(bases, count=counts[0]) + read_count(0) + schedule(commands, w, times), layout)
             last_whole, last_begun = times[0] // w, (times[-1] + w - 1) // w
-            what = "bases %s, counts %s, loads after %s" % (bases, counts, times)
+            what = "%s, bases %s, counts %s, loads after %s" % (NAMES[layout], bases, counts, times)
             numbers, place = count_oracle(bases, counts, times)
             same(out, "%s\nEND %d 0\n" % (count_line(0, numbers), 1 + writes * (w + 1) + w), what)
             spans(out.split("\n")[0], counts[last_whole:last_begun + 1], what)
             runs += 1
             ended["met" if place is None and last_whole < last_begun else place] += 1
-    check(all(ended[end] for end in ["met", None] + list(range(len(bases)))), "bases %s: some ends are not reached" % bases)
-    print("count reads, bases %s, %d writes: %d runs against oracle and span; copies equal %d, and %d more that met a write; "
-          "parted in place %s" % (bases, writes, runs, ended[None], ended["met"],
-                                  ", ".join("%d: %d" % (place, ended[place]) for place in range(len(bases)))))
+    # Copies part in a place of their own. With one step a read is over at once, and meets none.
+    places = range(w - len(bases))
+    all_ends = {None}.union(["met"] if w > 1 else [], places)
+    check(set(ended) == all_ends, "%s, bases %s: not all ends, or others: %s" % (NAMES[layout], bases, ended))
+    print("count reads, %s, bases %s, %d writes: %d runs against oracle and span; copies equal %d, and %d more that met a "
+          "write; parted in place %s" % (NAMES[layout], bases, writes, runs, ended[None], ended["met"],
+                                  ", ".join("%d: %d" % (place, ended[place]) for place in places) or "none"))
 
 
 def record_reads(q, version_base, n, writes, first, allowed):
@@ -185,16 +206,16 @@ def last_stored(writes, k, before):
     return next(i for i in reversed(range(len(writes))) if len(writes[i].steps) >= k and writes[i].steps[k - 1] < before)
 
 
-def history(data, ends):
+def history(data, ends, layout):
     """Check each line of a run against the writes and steps before it, and count in what ways reads end."""
     try:
-        page, at = opened(data)
+        page, at = opened(data, layout)
     except Refusal:
         return
-    form, done = page.form, int(printed(data).split()[-2])
-    whole = {1: 2 * len(form.bases), 2: 2 * form.q + form.n}
+    form, done = page.form, int(printed(data, layout).split()[-2])
+    whole = {1: count_steps(form.bases, layout), 2: 2 * form.q + form.n}
     # The opening is number 0, and stored all of both before the first command.
-    writes = {1: [Written(page.count(), [0] * whole[1])], 2: [Written(bytes(page.record), [0] * whole[2])]}
+    writes = {1: [Written(page.count(), [0] * whole[1])], 2: [Written(bytes(runlist.held(page.record)), [0] * whole[2])]}
     reads = {}
     for index in range(1, done + 1):
         kind, body = data[at], data[at + 1:at + 1 + BODY_LENGTH[data[at]]]
@@ -262,7 +283,7 @@ def generated(seeds):
     for seed in range(seeds):
         data = inputs.make(seed)
         same(inputs.make(seed), data, "seed %d made again" % seed)
-        history(data, ends)
+        history(data, ends, PLAIN)
         refusals[int(printed(data).split()[-1])] += 1
     for refusal in (0, 1, 2, 4, 5, 6, 7, 8, 9, 11):
         check(refusals[refusal] >= seeds // 100, "few inputs end with refusal %d" % refusal)
@@ -272,6 +293,24 @@ def generated(seeds):
         check(ends[end] >= seeds // 20, "few reads are %s" % end)
     check(not refusals[3] and not refusals[10] and not refusals[12], "3, 10 and 12 cannot be reached")
     print("%d generated inputs against their histories: %s" % (seeds, ", ".join("%s %d" % e for e in sorted(ends.items()))))
+    print("they end with refusal " + ", ".join("%d: %d" % end for end in sorted(refusals.items())))
+
+
+def generated_folded(seeds):
+    ends, refusals = Counter(), Counter()
+    for seed in range(seeds):
+        data, _ = folded.make(seed)
+        same(folded.make(seed)[0], data, "folded, seed %d made again" % seed)
+        history(data, ends, FOLDED)
+        refusals[int(printed(data, FOLDED).split()[-1])] += 1
+    for refusal in (0, 4, 5, 6, 7, 8, 11):
+        check(refusals[refusal] >= seeds // 100, "few inputs on folded pages end with refusal %d" % refusal)
+    for end in ("shown at rest", "shown in a race", "parted in the first place", "parted in the middle place",
+                "parted, mixed bases after", "parted, widest counts", "accepted at once", "cancelled"):
+        check(ends[end] >= seeds // 20, "few reads on folded pages are %s" % end)
+    check(not any(ends["parted in the %s place" % place] for place in ("only", "last")), "copies part in the shared digit")
+    check(not refusals[3] and not refusals[10] and not refusals[12], "3, 10 and 12 cannot be reached on folded pages")
+    print("%d generated inputs on folded pages: %s" % (seeds, ", ".join("%s %d" % e for e in sorted(ends.items()))))
     print("they end with refusal " + ", ".join("%d: %d" % end for end in sorted(refusals.items())))
 
 
@@ -287,12 +326,16 @@ def examples():
 def main():
     document()
     examples()
-    count_reads([2, 3], 2)
-    count_reads([2, 3, 2], 1)
+    count_reads([2, 3], 2, PLAIN)
+    count_reads([2, 3, 2], 1, PLAIN)
+    count_reads([3], 3, FOLDED)
+    count_reads([2, 3], 3, FOLDED)
+    count_reads([2, 3, 2], 1, FOLDED)
     record_reads(1, 10, 2, 2, 0, 2)
     record_reads(2, 2, 1, 3, 1, 1)  # the write that carries the version from 01 to 10, and the one after it
     record_reads(2, 2, 1, 2, 1, 2)
     generated(1500)
+    generated_folded(600)
     print("%d failed" % failures if failures else "all good")
     return 1 if failures else 0
 

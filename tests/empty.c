@@ -148,7 +148,7 @@ static void lengths_of(const char *call, uint8_t (*answer)(struct lengths), int 
 }
 
 int main(void) {
-    lent.format = (lagumtay_format){.q = Q, .base = 256, .n = N, .readers = READERS};
+    lent.format = (lagumtay_format){.q = Q, .base = 256, .layout = LAGUMTAY_PLAIN, .n = N, .readers = READERS};
     lent.bases[0] = 24;
     lent.bases[1] = 60;
     memcpy(lent.record, "abcd", N);

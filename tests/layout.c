@@ -1,4 +1,4 @@
-/* The layout of the structs, seen by what the archive writes into their bytes and reads out of them.
+/* The sizes and offsets of the structs, seen by what the archive writes into their bytes and reads out of them.
  *
  *     cc -std=c11 -Iinclude tests/layout.c target/staticlib/liblagumtay.a -o target/layout && target/layout
  *
@@ -247,6 +247,7 @@ static void state_field(uint8_t *state, size_t offset, size_t size, uint64_t wro
 int main(void) {
     put(format, 0, Q, 8);
     put(format, 8, 11, 2);
+    put(format, 10, LAGUMTAY_PLAIN, 2);
     put(format, 16, N, 8);
     put(format, 24, READERS, 8);
     format_field(0, 8, Q, "format.q");
@@ -255,6 +256,15 @@ int main(void) {
     put(format, 8, 257, 2);
     check(opening() == LAGUMTAY_BAD_FORMAT, "format.base");
     put(format, 8, 11, 2);
+    /* The layout has both its bytes, and a good one asks another length of the page. */
+    const uint64_t no_layouts[] = {2, 256, 257, 65535};
+    for (size_t i = 0; i < sizeof no_layouts / sizeof *no_layouts; i++) {
+        put(format, 10, no_layouts[i], 2);
+        check(opening() == LAGUMTAY_BAD_FORMAT, "format.layout");
+    }
+    put(format, 10, LAGUMTAY_FOLDED, 2);
+    check(opening() == LAGUMTAY_WRONG_LENGTH, "format.layout");
+    put(format, 10, LAGUMTAY_PLAIN, 2);
 
     /* An opening writes all fields of all states. */
     memset(writer, 0xaa, sizeof writer);

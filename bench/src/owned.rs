@@ -12,13 +12,13 @@ pub struct Owned {
 }
 
 impl Owned {
-    /// Zeros in the lengths that the format asks.
+    /// Zeros in the lengths that a good format asks.
     pub fn blank(format: Format, bases: &[u16]) -> Owned {
-        let Format { q, n, readers, .. } = format;
+        let Format { q, n, readers, layout, .. } = format;
         Owned {
             format,
             bases: bases.to_vec(),
-            page: vec![0; 2 * bases.len() + 2 * q + n],
+            page: vec![0; 2 * bases.len() - usize::from(layout) + 2 * q + n],
             writer: Writer::default(),
             readers: vec![Reader::default(); readers],
             buffers: vec![0; readers * n],

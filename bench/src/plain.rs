@@ -1,8 +1,9 @@
-//! Document 01 in plain Rust, with both ends told where the copies of a count part, over the same lent memory as the
-//! proved archive: the baseline of the bench, and the other side of the fuzz program. It is written from document 01 to
-//! be fast: a run checks its memory once, digits eight at a time, and after that a command costs a look at its kind and
-//! one byte moved.
-use lagumtay::raw::{Answer, Command, Format, Lent, Outcome, Reader, Writer, LONGEST_ENTRY, PACKED};
+//! Document 01 in plain Rust, with both ends told where the copies of a count part and with folded pages, over the same
+//! lent memory as the proved archive: the baseline of the bench, and the other side of the fuzz program. It is written
+//! from documents 01 and 02 to be fast: a run checks its memory once, digits eight at a time, and after that a command
+//! costs a look at its kind and one byte moved. What depends on the layout is compiled for each: SHARED is how many
+//! digits the copies of the count share.
+use lagumtay::raw::{Answer, Command, Format, Lent, Outcome, Reader, Writer, FOLDED, LONGEST_ENTRY, PACKED, PLAIN};
 use lagumtay::Refusal::{self, *};
 
 // Kinds of a state, the writer's and a reader's.
@@ -20,18 +21,26 @@ pub fn number(ending: Ending) -> u8 {
 
 /// The opening. A refused one changes nothing.
 pub fn open(lent: &mut Lent, count: u64, record: &[u8]) -> Ending {
+    match lent.format.layout {
+        PLAIN => open_sharing::<0>(lent, count, record),
+        FOLDED => open_sharing::<1>(lent, count, record),
+        _ => Err(BadFormat),
+    }
+}
+
+fn open_sharing<const SHARED: usize>(lent: &mut Lent, count: u64, record: &[u8]) -> Ending {
     let Lent { format, bases, .. } = *lent;
     let counts = good_places(format, bases)?;
-    check_lengths(lent)?;
+    check_lengths::<SHARED>(lent)?;
     ensure(record.len() == format.n, WrongLength)?;
     let digits = counts.digits(count).ok_or(CountTooLarge)?.to_be_bytes();
-    let m = bases.len();
+    let (m, own) = (bases.len(), bases.len() - SHARED);
     let (c1, rest) = lent.page.split_at_mut(m);
-    let (c2, rest) = rest.split_at_mut(m);
+    let (c2, rest) = rest.split_at_mut(own);
     let (v1, rest) = rest.split_at_mut(format.q);
     let (content, v2) = rest.split_at_mut(format.n);
     c1.copy_from_slice(&digits[..m]);
-    c2.copy_from_slice(&digits[..m]);
+    c2.copy_from_slice(&digits[..own]);
     v1.fill(0);
     content.copy_from_slice(record);
     v2.fill(0);
@@ -42,29 +51,61 @@ pub fn open(lent: &mut Lent, count: u64, record: &[u8]) -> Ending {
 }
 
 /// A run: refusals 1 to 3 once at its start, then the commands in order up to the first that is refused.
-#[inline(never)] // the archive's run cannot be inlined either
+#[inline]
 pub fn run(lent: &mut Lent, records: &[u8], commands: &[u8], log: &mut [u8]) -> (Answer, Ending) {
-    let most = match check(lent, records) {
+    match lent.format.layout {
+        PLAIN => run_sharing::<0>(lent, records, commands, log),
+        FOLDED => run_sharing::<1>(lent, records, commands, log),
+        _ => (Answer::default(), Err(BadFormat)),
+    }
+}
+
+#[inline(never)] // the archive's run cannot be inlined either
+fn run_sharing<const SHARED: usize>(
+    lent: &mut Lent,
+    records: &[u8],
+    commands: &[u8],
+    log: &mut [u8],
+) -> (Answer, Ending) {
+    let most = match check::<SHARED>(lent, records) {
         Ok(most) => most,
         Err(why) => return (Answer::default(), Err(why)),
     };
     let mut log = Log { bytes: log, written: 0 };
-    let (done, left, ending) = Machine::new(lent, records, most).commands(commands, &mut log);
+    let (done, left, ending) = Machine::<SHARED>::new(lent, records, most).commands(commands, &mut log);
     (Answer { done, written: log.written, taken: commands.len() - left }, ending)
 }
 
 /// One command, told at once: there is no log that could be full.
-#[inline(never)]
+#[inline]
 pub fn step(lent: &mut Lent, records: &[u8], command: &Command) -> (Outcome, Ending) {
+    match lent.format.layout {
+        PLAIN => step_sharing::<0>(lent, records, command),
+        FOLDED => step_sharing::<1>(lent, records, command),
+        _ => (Outcome::default(), Err(BadFormat)),
+    }
+}
+
+#[inline(never)]
+fn step_sharing<const SHARED: usize>(lent: &mut Lent, records: &[u8], command: &Command) -> (Outcome, Ending) {
     let mut outcome = Outcome::default();
-    let ending = check(lent, records).and_then(|most| Machine::new(lent, records, most).command(command, &mut outcome));
+    let ending = check::<SHARED>(lent, records)
+        .and_then(|most| Machine::<SHARED>::new(lent, records, most).command(command, &mut outcome));
     (outcome, ending)
 }
 
 /// The run of one command that cancels this reader's read.
 pub fn cancel(lent: &mut Lent, records: &[u8], who: u8) -> Ending {
-    let most = check(lent, records)?;
-    Machine::new(lent, records, most).cancel(who)
+    match lent.format.layout {
+        PLAIN => cancel_sharing::<0>(lent, records, who),
+        FOLDED => cancel_sharing::<1>(lent, records, who),
+        _ => Err(BadFormat),
+    }
+}
+
+fn cancel_sharing<const SHARED: usize>(lent: &mut Lent, records: &[u8], who: u8) -> Ending {
+    let most = check::<SHARED>(lent, records)?;
+    Machine::<SHARED>::new(lent, records, most).cancel(who)
 }
 
 /// The command that these bytes are, of those that a step is told; kind 0 if they are none.
@@ -170,12 +211,16 @@ impl<'a> Radix<'a> {
         64 - 8 * self.bases.len()
     }
 
-    /// Is each digit at the front of these bytes below its base?
+    /// Is each digit at the front of these bytes below its base? So many of the last places are not there.
     #[inline(always)]
-    fn valid(self, bytes: &[u8]) -> bool {
+    fn valid(self, bytes: &[u8], missing: usize) -> bool {
+        let there = |digits: u64| digits >> self.spare() >> (8 * missing);
         match bytes.first_chunk() {
-            Some(&eight) => within(u64::from_be_bytes(eight) >> self.spare(), self.most >> self.spare()),
-            None => bytes.iter().zip(self.bases).all(|(&digit, &base)| u16::from(digit) < base),
+            Some(&eight) => within(there(u64::from_be_bytes(eight)), there(self.most)),
+            None => {
+                let bases = &self.bases[..self.bases.len() - missing];
+                bytes.iter().zip(bases).all(|(&digit, &base)| u16::from(digit) < base)
+            }
         }
     }
 
@@ -211,23 +256,23 @@ impl<'a> Radix<'a> {
 
 // THE CHECKS AT THE START OF A CALL
 
-/// All that refusals 1 to 3 ask of a run; gives the largest digits of a count.
+/// All that refusals 1 to 3 ask of a run but for the layout; gives the largest digits of a count.
 #[inline(never)] // so that it has all registers, and the commands have
-fn check(lent: &Lent, records: &[u8]) -> Result<u64, Refusal> {
+fn check<const SHARED: usize>(lent: &Lent, records: &[u8]) -> Result<u64, Refusal> {
     let Lent { format, bases, .. } = *lent;
     let counts = good_places(format, bases)?;
-    check_lengths(lent)?;
+    check_lengths::<SHARED>(lent)?;
     let Format { q, base, n, .. } = *format;
     ensure(records.len().is_multiple_of(n), WrongLength)?;
-    let m = bases.len();
+    let (m, all) = (bases.len(), 2 * bases.len() - SHARED);
     let page = &*lent.page;
-    ensure(counts.valid(page) && counts.valid(&page[m..]), InvalidState)?;
+    ensure(counts.valid(page, 0) && counts.valid(&page[m..], SHARED), InvalidState)?;
     let below = |digits: &[u8]| digits.iter().all(|&digit| u16::from(digit) < base);
-    ensure(below(&page[2 * m..][..q]) && below(&page[2 * m + q + n..]), InvalidState)?;
+    ensure(below(&page[all..][..q]) && below(&page[all + q + n..]), InvalidState)?;
     let w = &*lent.writer;
     let valid_writer = match u8::try_from(w.kind) {
         Ok(IDLE) => *w == Writer::default(),
-        Ok(COUNT) => w.index == 0 && w.version == 0 && w.steps < 2 * m && counts.fits(w.count),
+        Ok(COUNT) => w.index == 0 && w.version == 0 && w.steps < all && counts.fits(w.count),
         Ok(RECORD) => {
             w.count == 0
                 && w.steps < 2 * q + n
@@ -238,12 +283,13 @@ fn check(lent: &Lent, records: &[u8]) -> Result<u64, Refusal> {
         _ => false,
     };
     ensure(valid_writer, InvalidState)?;
+    let in_c2 = if SHARED == 0 { counts.most } else { counts.most & high(m - SHARED) };
     let versions = top_version(base, q);
     for r in lent.readers.iter() {
         let valid_reader = match r.kind {
             IDLE => *r == Reader::default(),
-            COUNT => r.allowed == 0 && r.finished == 0 && valid_gathered(r, counts.most, 2 * m),
-            RECORD => r.finished < r.allowed && valid_gathered(r, versions, 2 * q + n),
+            COUNT => r.allowed == 0 && r.finished == 0 && valid_gathered(r, [counts.most, in_c2], all),
+            RECORD => r.finished < r.allowed && valid_gathered(r, [versions; 2], 2 * q + n),
             _ => false,
         };
         ensure(valid_reader, InvalidState)?;
@@ -252,10 +298,11 @@ fn check(lent: &Lent, records: &[u8]) -> Result<u64, Refusal> {
 }
 
 pub fn check_format(format: &Format, bases: &[u16]) -> Ending {
+    ensure(format.layout <= FOLDED, BadFormat)?;
     good_places(format, bases).map(|_| ())
 }
 
-/// The places of a count, if the format is good.
+/// The places of a count, if the format is good. Its layout is not looked at.
 #[inline(always)]
 fn good_places<'a>(format: &Format, bases: &'a [u16]) -> Result<Radix<'a>, Refusal> {
     let good_base = |base: u16| (2..=256).contains(&base);
@@ -273,21 +320,24 @@ fn good_places<'a>(format: &Format, bases: &'a [u16]) -> Result<Radix<'a>, Refus
     Ok(Radix { bases, most: most << (64 - 8 * bases.len()) })
 }
 
+/// On a page come c1 with all its digits, a shared one last, then those of c2 that are its own, then version and record.
 #[inline(always)]
-fn check_lengths(lent: &Lent) -> Ending {
+fn check_lengths<const SHARED: usize>(lent: &Lent) -> Ending {
     let Format { q, n, readers, .. } = *lent.format;
-    let good = lent.page.len() == 2 * lent.bases.len() + 2 * q + n
+    let good = lent.page.len() == 2 * lent.bases.len() - SHARED + 2 * q + n
         && lent.readers.len() == readers
         && lent.buffers.len() == readers * n;
     ensure(good, WrongLength)
 }
 
 /// Of all the steps that a count read or an attempt has, the first gather digits into the first half from the left, and
-/// the last into the second half from the right. Are these at most the largest, and all others zero?
+/// the last into the second half from the right. Are these at most the largest of each half, and all others zero?
 #[inline(always)]
-fn valid_gathered(reader: &Reader, most: u64, all: usize) -> bool {
+fn valid_gathered(reader: &Reader, [most, most_after]: [u64; 2], all: usize) -> bool {
     let (first, second) = halves(reader);
-    reader.steps < all && within(first, most & high(reader.steps)) && within(second, most & !high(all - reader.steps))
+    reader.steps < all
+        && within(first, most & high(reader.steps))
+        && within(second, most_after & !high(all - reader.steps))
 }
 
 fn halves(reader: &Reader) -> (u64, u64) {
@@ -366,11 +416,11 @@ impl Log<'_> {
     }
 }
 
-struct Machine<'a> {
+struct Machine<'a, const SHARED: usize> {
     counts: Radix<'a>,
     /// the base of a version's places
     base: u16,
-    /// c1 and c2
+    /// c1, and of c2 its own digits
     copies: &'a mut [u8],
     v1: &'a mut [u8],
     content: &'a mut [u8],
@@ -386,12 +436,12 @@ struct Machine<'a> {
 }
 
 // All of it is put into one loop over the commands. What is long and seldom is called: it would take the loop's registers.
-impl<'a> Machine<'a> {
+impl<'a, const SHARED: usize> Machine<'a, SHARED> {
     #[inline(always)]
-    fn new(lent: &'a mut Lent, records: &'a [u8], most: u64) -> Machine<'a> {
+    fn new(lent: &'a mut Lent, records: &'a [u8], most: u64) -> Machine<'a, SHARED> {
         let Lent { format, bases, page, writer, readers, buffers } = lent;
         let Format { q, base, n, .. } = **format;
-        let (copies, rest) = page.split_at_mut(2 * bases.len());
+        let (copies, rest) = page.split_at_mut(2 * bases.len() - SHARED);
         let (v1, rest) = rest.split_at_mut(q);
         let (content, v2) = rest.split_at_mut(n);
         let record = if writer.kind == RECORD.into() { &records[writer.index * n..][..n] } else { &[] };
@@ -470,7 +520,7 @@ impl<'a> Machine<'a> {
     #[inline(always)]
     fn begin_count_write(&mut self, count: u64) -> Ending {
         ensure(self.writer.kind == IDLE.into(), Busy)?;
-        self.digits = Some(next_count(self.counts, self.copies, count)?);
+        self.digits = Some(next_count::<SHARED>(self.counts, self.copies, count)?);
         *self.writer = Writer { kind: COUNT.into(), count, ..Writer::default() };
         Ok(())
     }
@@ -500,10 +550,10 @@ impl<'a> Machine<'a> {
         let left = match self.writer.kind as u8 {
             IDLE => return Err(NothingPending),
             COUNT => {
-                // c2 left to right, c1 right to left
+                // c2's own digits left to right, c1 right to left
                 let m = self.counts.bases.len();
-                let left = 2 * m - 1 - k;
-                let (to, place) = if k < m { (m + k, k) } else { (left, left) };
+                let left = 2 * m - SHARED - 1 - k;
+                let (to, place) = if k < m - SHARED { (m + k, k) } else { (left, left) };
                 self.copies[to] = self.digit(place);
                 left
             }
@@ -561,11 +611,13 @@ impl<'a> Machine<'a> {
         match reader.kind {
             IDLE => return Err(NothingPending),
             COUNT => {
-                // c1 left to right, c2 right to left
+                // c1 left to right, c2's own digits right to left
                 let m = self.counts.bases.len();
-                let left = 2 * m - 1 - k;
+                let left = 2 * m - SHARED - 1 - k;
                 if left == 0 {
-                    return end_count_read(self.counts, reader, self.copies[m], who, told);
+                    // The first digit of c2. Of a single place that is shared there is no other than c1's.
+                    let last = if SHARED == 0 { m } else { m.min(2 * m - SHARED - 1) };
+                    return end_count_read::<SHARED>(self.counts, reader, self.copies[last], who, told);
                 }
                 let (from, to) = if k < m { (k, k) } else { (m + left, 8 + left) };
                 reader.digits[to] = self.copies[from];
@@ -595,9 +647,12 @@ impl<'a> Machine<'a> {
 
 /// The digits of a count that may be written next to c1 and c2.
 #[inline(never)]
-fn next_count(counts: Radix, copies: &[u8], count: u64) -> Result<u64, Refusal> {
+fn next_count<const SHARED: usize>(counts: Radix, copies: &[u8], count: u64) -> Result<u64, Refusal> {
     let digits = counts.digits(count).ok_or(CountTooLarge)?;
-    ensure(digits >= packed(&copies[counts.bases.len()..]), CountDecreases)?;
+    // The last m digits are c2; on a folded page the shared digit, its last, stands before its own.
+    let last = packed(&copies[counts.bases.len() - SHARED..]);
+    let c2 = if SHARED == 0 { last } else { last << 8 | last >> 56 << counts.spare() };
+    ensure(digits >= c2, CountDecreases)?;
     Ok(digits)
 }
 
@@ -623,9 +678,21 @@ fn pending_digits(counts: Radix, base: u16, q: usize, writer: &Writer) -> u64 {
 
 /// The last step of a count read, with the digit that it reads.
 #[inline(never)]
-fn end_count_read(counts: Radix, reader: &mut Reader, digit: u8, who: u8, told: &mut impl Told) -> Ending {
-    let (a, b) = halves(reader);
-    let b = b | u64::from(digit) << 56;
+fn end_count_read<const SHARED: usize>(
+    counts: Radix,
+    reader: &mut Reader,
+    digit: u8,
+    who: u8,
+    told: &mut impl Told,
+) -> Ending {
+    let (mut a, mut b) = halves(reader);
+    b |= u64::from(digit) << 56;
+    if SHARED > 0 {
+        // The shared digit was gathered as the last of a, or, if it is the only one, just now.
+        let own = counts.bases.len() - SHARED;
+        a = if own == 0 { b } else { a };
+        b |= a & !high(own);
+    }
     ensure(a <= b, CopiesCrossed)?;
     if a == b {
         told.shown(who, counts.value(a))?;

@@ -1,7 +1,8 @@
-//! The printed run on top of the plain implementation, so that it is held to the recorded runs.
+//! The printed run on top of the plain implementation, so that it is held to the recorded runs. `runlist` has plain pages
+//! alone; a schedule of folded ones is written with the same header, and what it leaves is told too.
 use std::fmt::Write;
 
-use lagumtay::raw::{Format, LONGEST_ENTRY};
+use lagumtay::raw::{Format, FOLDED, LONGEST_ENTRY, PLAIN};
 use lagumtay::Refusal;
 
 use crate::owned::Owned;
@@ -11,10 +12,33 @@ const MOST_INPUT: usize = 65_536;
 
 /// All that `runlist` prints for this standard input.
 pub fn printed(input: &[u8]) -> String {
-    let mut out = String::new();
-    let (done, ending) = print(input, &mut out);
-    writeln!(out, "END {done} {}", number(ending)).unwrap();
-    out
+    match opened(input, PLAIN) {
+        Ok(mut opened) => opened.run(),
+        Err(why) => end(0, Err(why)),
+    }
+}
+
+/// What it would print if its pages were folded, and then the page and the buffers, as `reference/folded.py` has them.
+pub fn folded(input: &[u8]) -> String {
+    match opened(input, FOLDED) {
+        Ok(mut opened) => {
+            let out = opened.run();
+            out + "page " + &hex(&opened.lent.page) + "\nbuffers " + &hex(&opened.lent.buffers) + "\n"
+        }
+        Err(why) => end(0, Err(why)),
+    }
+}
+
+/// The last line.
+fn end(done: usize, ending: plain::Ending) -> String {
+    format!("END {done} {}\n", number(ending))
+}
+
+fn hex(bytes: &[u8]) -> String {
+    bytes.iter().fold(String::new(), |mut text, byte| {
+        write!(text, "{byte:02x}").unwrap();
+        text
+    })
 }
 
 /// The first bytes of the input that is left, if there are so many.
@@ -38,7 +62,7 @@ struct Opened<'a> {
     commands: &'a [u8],
 }
 
-fn opened(input: &[u8]) -> Result<Opened<'_>, Refusal> {
+fn opened(input: &[u8], layout: u16) -> Result<Opened<'_>, Refusal> {
     if input.len() > MOST_INPUT {
         return Err(Refusal::WrongLength);
     }
@@ -54,6 +78,7 @@ fn opened(input: &[u8]) -> Result<Opened<'_>, Refusal> {
     let format = Format {
         q: take_number(&mut form, 1)? as usize,
         base: take_number(&mut form, 2)? as u16,
+        layout,
         n: take_number(&mut form, 2)? as usize,
         readers: take_number(&mut form, 1)? as usize,
     };
@@ -77,39 +102,35 @@ fn command_length(kind: u8) -> usize {
     }
 }
 
-/// Commands carried out, and how the run ended.
-fn print(input: &[u8], out: &mut String) -> (usize, plain::Ending) {
-    let Opened { mut lent, records, mut commands } = match opened(input) {
-        Ok(opened) => opened,
-        Err(why) => return (0, Err(why)),
-    };
-    let mut done = 0;
-    // One command a run, since a record is printed as the buffer held it right then.
-    while let Some(&kind) = commands.first() {
-        let (command, rest) = commands.split_at(command_length(kind).min(commands.len()));
-        let mut log = [0; LONGEST_ENTRY];
-        let (answer, ending) = plain::run(&mut lent.lend(), records, command, &mut log);
-        if ending.is_err() {
-            return (done, ending);
-        }
-        match &log[..answer.written] {
-            [1, who, count @ ..] => writeln!(out, "C {who} {}", number_in(count)).unwrap(),
-            [2, who, attempts, version @ ..] => {
-                write!(out, "R {who} {attempts} {} ", number_in(version)).unwrap();
-                for byte in lent.buffer(*who) {
-                    write!(out, "{byte:02x}").unwrap();
+impl Opened<'_> {
+    /// The lines of the run up to its first refused command.
+    fn run(&mut self) -> String {
+        let mut out = String::new();
+        let mut done = 0;
+        // One command a run, since a record is printed as the buffer held it right then.
+        while let Some(&kind) = self.commands.first() {
+            let (command, rest) = self.commands.split_at(command_length(kind).min(self.commands.len()));
+            let mut log = [0; LONGEST_ENTRY];
+            let (answer, ending) = plain::run(&mut self.lent.lend(), self.records, command, &mut log);
+            if ending.is_err() {
+                return out + &end(done, ending);
+            }
+            match &log[..answer.written] {
+                [1, who, count @ ..] => writeln!(out, "C {who} {}", number_in(count)).unwrap(),
+                [2, who, attempts, version @ ..] => {
+                    let record = hex(self.lent.buffer(*who));
+                    writeln!(out, "R {who} {attempts} {} {record}", number_in(version)).unwrap();
                 }
-                out.push('\n');
+                [3, who, attempts] => writeln!(out, "G {who} {attempts}").unwrap(),
+                [4, who, ends @ ..] => {
+                    let (low, high) = ends.split_at(8);
+                    writeln!(out, "B {who} {} {}", number_in(low), number_in(high)).unwrap();
+                }
+                _ => {}
             }
-            [3, who, attempts] => writeln!(out, "G {who} {attempts}").unwrap(),
-            [4, who, ends @ ..] => {
-                let (low, high) = ends.split_at(8);
-                writeln!(out, "B {who} {} {}", number_in(low), number_in(high)).unwrap();
-            }
-            _ => {}
+            done += 1;
+            self.commands = rest;
         }
-        done += 1;
-        commands = rest;
+        out + &end(done, Ok(()))
     }
-    (done, Ok(()))
 }

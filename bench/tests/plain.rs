@@ -1,7 +1,7 @@
 //! The plain implementation against the documents: the printed run, the trap, the edges with both ends, each refusal.
 use std::cmp::Ordering;
 
-use lagumtay::raw::{Answer, Command, Format, Outcome, Reader, Writer, PACKED};
+use lagumtay::raw::{Answer, Command, Format, Outcome, Reader, Writer, FOLDED, PACKED, PLAIN};
 use lagumtay::Refusal;
 use lagumtay_bench::owned::Owned;
 use lagumtay_bench::plain::{self, command_of, number};
@@ -13,7 +13,7 @@ fn bytes(text: &str) -> Vec<u8> {
 }
 
 /// Two readers, a version of one place, records of two bytes.
-const FORMAT: Format = Format { q: 1, base: 10, n: 2, readers: 2 };
+const FORMAT: Format = Format { q: 1, base: 10, layout: PLAIN, n: 2, readers: 2 };
 const RECORDS: &[u8] = b"bbcc";
 
 fn open(lent: &mut Owned, count: u64, record: &[u8]) -> u8 {
@@ -21,7 +21,16 @@ fn open(lent: &mut Owned, count: u64, record: &[u8]) -> u8 {
 }
 
 fn opened(bases: &[u16], count: u64) -> Owned {
-    let mut lent = Owned::blank(FORMAT, bases);
+    opened_as(FORMAT, bases, count)
+}
+
+/// The same on a folded page.
+fn opened_folded(bases: &[u16], count: u64) -> Owned {
+    opened_as(Format { layout: FOLDED, ..FORMAT }, bases, count)
+}
+
+fn opened_as(format: Format, bases: &[u16], count: u64) -> Owned {
+    let mut lent = Owned::blank(format, bases);
     assert_eq!(open(&mut lent, count, b"aa"), 0);
     lent
 }
@@ -175,6 +184,9 @@ fn refusal_1_bad_format() {
         Format { q: 5, ..FORMAT },
         Format { base: 1, ..FORMAT },
         Format { base: 257, ..FORMAT },
+        Format { layout: 2, ..FORMAT },
+        Format { layout: 257, ..FORMAT },
+        Format { layout: u16::MAX, ..FORMAT },
         Format { n: 0, ..FORMAT },
         Format { n: 257, ..FORMAT },
         Format { readers: 0, ..FORMAT },
@@ -209,6 +221,22 @@ fn refusal_2_wrong_length() {
     assert_eq!(open(&mut lent, 0, b"a"), 2);
     assert_eq!(run_with(&mut lent, b"bbc", "03", 0), (0, vec![], 2));
     assert_eq!(run_with(&mut lent, b"", "0400", 0), (1, vec![], 0));
+}
+
+/// Each layout asks a length of its own.
+#[test]
+fn refusal_2_of_the_other_layout() {
+    for m in 1..=8 {
+        for layout in [PLAIN, FOLDED] {
+            let mut lent = opened_as(Format { layout, ..FORMAT }, &vec![10; m], 4);
+            assert_eq!(lent.page.len(), 2 * m - usize::from(layout) + 4);
+            lent.format.layout = 1 - layout;
+            let before = lent.clone();
+            assert_eq!(open(&mut lent, 0, b"aa"), 2);
+            assert_eq!(run(&mut lent, "03"), (0, vec![], 2));
+            assert_eq!(lent, before);
+        }
+    }
 }
 
 #[test]
@@ -261,6 +289,113 @@ fn refusal_3_invalid_state() {
         assert_eq!(run(&mut lent, "03"), (0, vec![], 3), "change {i}");
         assert_eq!(plain::cancel(&mut lent.lend(), RECORDS, 9), Err(Refusal::InvalidState));
         assert_eq!(lent, before);
+    }
+}
+
+/// A write and a read of a folded page, each one step before its end.
+#[test]
+fn refusal_3_on_a_folded_page() {
+    let begun = || {
+        let mut lent = opened_as(Format { layout: FOLDED, base: 200, ..FORMAT }, &[10, 10, 10], 456);
+        let four = "03 03 03 03 0400 0600 0600 0600 0600";
+        assert_eq!(run(&mut lent, &format!("01 00000000000001c8 {four}")), (10, vec![], 0));
+        lent
+    };
+    assert_eq!(begun().readers[0].digits, [4, 5, 6, 0, 0, 0, 0, 0, 0, 5, 0, 0, 0, 0, 0, 0]);
+    let changes: &[fn(&mut Owned)] = &[
+        |lent| lent.page[2] = 10,
+        |lent| lent.page[3] = 10,
+        |lent| lent.page[4] = 10,
+        |lent| lent.page[5] = 200,
+        |lent| lent.page[8] = 200,
+        |lent| lent.writer.steps = 5,
+        |lent| lent.readers[0].steps = 5,
+        |lent| lent.readers[0].steps = 3,
+        |lent| lent.readers[0].digits[2] = 10,
+        |lent| lent.readers[0].digits[3] = 1,
+        |lent| lent.readers[0].digits[8] = 1,
+        |lent| lent.readers[0].digits[9] = 10,
+        |lent| lent.readers[0].digits[10] = 1,
+        |lent| lent.readers[0].digits[15] = 1,
+    ];
+    for (i, change) in changes.iter().enumerate() {
+        let mut lent = begun();
+        change(&mut lent);
+        let before = lent.clone();
+        assert_eq!(run(&mut lent, "03"), (0, vec![], 3), "change {i}");
+        assert_eq!(lent, before);
+    }
+    // What stands behind c2's own digits is no digit of it; the record may have any bytes, a digit any below its base.
+    let mut lent = begun();
+    lent.page[5] = 199;
+    lent.page[6..8].fill(255);
+    lent.readers[0].digits[9] = 9;
+    assert_eq!(run(&mut lent, "03"), (1, vec![], 0));
+}
+
+/// c2's own digits left to right, the shared digit, c1's own right to left; a read takes them in reverse.
+#[test]
+fn steps_over_a_folded_page() {
+    let mut lent = opened_folded(&[10, 10, 10], 123);
+    assert_eq!(lent.page, [1, 2, 3, 1, 2, 0, b'a', b'a', 0]);
+    assert_eq!(run(&mut lent, "01 00000000000001c8").2, 0);
+    for digits in [[1, 2, 3, 4, 2], [1, 2, 3, 4, 5], [1, 2, 6, 4, 5], [1, 5, 6, 4, 5], [4, 5, 6, 4, 5]] {
+        assert_eq!(run(&mut lent, "03").2, 0);
+        assert_eq!(lent.page[..5], digits);
+    }
+    refused(&mut lent, "", "03", 7);
+    assert_eq!(run(&mut lent, "0400 0600 0600 0600 0600").2, 0);
+    assert_eq!(run(&mut lent, "0600"), (1, bytes("01 00 00000000000001c8"), 0));
+    refused(&mut lent, "", "0600", 7);
+}
+
+#[test]
+fn one_folded_place_is_never_between() {
+    let mut lent = opened_folded(&[10], 4);
+    assert_eq!(lent.page, [4, 0, b'a', b'a', 0]);
+    assert_eq!(run(&mut lent, "0400 01 0000000000000007 0600").1, bytes("01 00 0000000000000004"));
+    assert_eq!(run(&mut lent, "0400 03 0600").1, bytes("01 00 0000000000000007"));
+    refused(&mut lent, "", "01 0000000000000006", 5);
+    refused(&mut lent, "01 0000000000000007 03", "03", 7);
+    lent.readers[0] = Reader { kind: 1, steps: 1, ..Reader::default() };
+    assert_eq!(run(&mut lent, "").2, 3);
+}
+
+/// Copies of a folded page are read from any digits that it may hold: all that can be told by two of one shared digit.
+#[test]
+fn ends_all_pairs_of_folded_copies() {
+    let bases = [2, 3, 4];
+    let digits = |count: u8| [count / 12, count / 4 % 3, count % 4];
+    for (a, b) in (0..24).flat_map(|a| (0..24).map(move |b| (a, b))).filter(|(a, b)| a % 4 == b % 4) {
+        let mut lent = opened_folded(&bases, 0);
+        lent.page[..3].copy_from_slice(&digits(a));
+        lent.page[3..5].copy_from_slice(&digits(b)[..2]);
+        assert_eq!(run(&mut lent, "0400 0600 0600 0600 0600").2, 0);
+        match a.cmp(&b) {
+            Ordering::Equal => assert_eq!(run(&mut lent, "0600").1, bytes(&format!("01 00 {a:016x}"))),
+            Ordering::Greater => refused(&mut lent, "", "0600", 10),
+            Ordering::Less => {
+                let (low, high) = ends(&bases, &digits(a), &digits(b));
+                assert_eq!(run(&mut lent, "0600").1, between(low, high));
+            }
+        }
+    }
+}
+
+/// Whatever own digits c2 has and whatever the shared digit is, they decide together what goes back.
+#[test]
+fn refusal_5_by_the_digits_of_a_folded_c2() {
+    for (bases, page, c2) in [
+        (&[10, 10, 10][..], &[9, 9, 3, 1, 2][..], 123),
+        (&[24, 60], &[0, 57, 11], 11 * 60 + 57),
+        (&[10], &[7], 7),
+        (&[256; 8], &[0, 0, 0, 0, 0, 0, 0, 255, 255, 255, 255, 255, 255, 255, 255], u64::MAX),
+        (&[256; 8], &[9, 9, 9, 9, 9, 9, 9, 1, 0, 0, 0, 0, 0, 0, 2], 0x0201),
+    ] {
+        let mut lent = opened_folded(bases, 0);
+        lent.page[..page.len()].copy_from_slice(page);
+        refused(&mut lent, "", &format!("01 {:016x}", c2 - 1), 5);
+        assert_eq!(run(&mut lent, &format!("01 {c2:016x}")), (1, vec![], 0));
     }
 }
 

@@ -10,7 +10,7 @@ use std::process::exit;
 use std::time::{Duration, Instant};
 use std::{env, fmt};
 
-use lagumtay::raw::{Answer, Format, LONGEST_ENTRY};
+use lagumtay::raw::{Answer, Format, FOLDED, LONGEST_ENTRY, PLAIN};
 use lagumtay_bench::owned::Owned;
 use lagumtay_bench::plain::{self, number};
 use lagumtay_bench::random::Random;
@@ -27,13 +27,17 @@ const MOST_GROWTH: f64 = 1.5;
 
 /// The table, row by row: its name, the readers, and the commands.
 const ROWS: &[(&str, usize, Schedule)] = &[
-    ("count writes and reads, m = 2", 1, Counts { m: 2 }),
-    ("count writes and reads, m = 8", 1, Counts { m: 8 }),
+    ("count writes and reads, m = 2", 1, Counts { m: 2, layout: PLAIN }),
+    ("count writes and reads, m = 8", 1, Counts { m: 8, layout: PLAIN }),
+    ("count writes and reads, m = 2, folded", 1, Counts { m: 2, layout: FOLDED }),
+    ("count writes and reads, m = 8, folded", 1, Counts { m: 8, layout: FOLDED }),
     ("record writes and reads, n = 2", 1, Records { n: 2 }),
     ("record writes and reads, n = 256", 1, Records { n: 256 }),
     ("counts and records, steps in random order", 1, Mixed { most: 1 }),
-    ("16 readers, count writes and reads, m = 2", 16, Counts { m: 2 }),
-    ("16 readers, count writes and reads, m = 8", 16, Counts { m: 8 }),
+    ("16 readers, count writes and reads, m = 2", 16, Counts { m: 2, layout: PLAIN }),
+    ("16 readers, count writes and reads, m = 8", 16, Counts { m: 8, layout: PLAIN }),
+    ("16 readers, count writes and reads, m = 2, folded", 16, Counts { m: 2, layout: FOLDED }),
+    ("16 readers, count writes and reads, m = 8, folded", 16, Counts { m: 8, layout: FOLDED }),
     ("16 readers, record writes and reads, n = 2", 16, Records { n: 2 }),
     ("16 readers, record writes and reads, n = 256", 16, Records { n: 256 }),
     ("16 readers, counts and records mixed", 16, Mixed { most: 6 }),
@@ -42,10 +46,11 @@ const ROWS: &[(&str, usize, Schedule)] = &[
 
 enum Schedule {
     /// One count after the other, written and then read by the next reader.
-    Counts { m: usize },
-    /// One record after the other, written and then read by the next reader.
+    Counts { m: usize, layout: u16 },
+    /// One record after the other, on a plain page, written and then read by the next reader.
     Records { n: usize },
-    /// Readers of counts and records in random turns with a writer of both; a turn has up to so many commands.
+    /// On a plain page, readers of counts and records in random turns with a writer of both; a turn has up to so many
+    /// commands.
     Mixed { most: usize },
 }
 use Schedule::*;
@@ -95,7 +100,7 @@ impl Case {
     /// A row's commands, so many, with a log that holds all entries.
     fn new(&(name, readers, ref schedule): &(&'static str, usize, Schedule), commands: usize) -> Case {
         let mut case = match *schedule {
-            Counts { m } => Case::counts(readers, m, commands),
+            Counts { m, layout } => Case::counts(readers, m, layout, commands),
             Records { n } => Case::records(readers, n, commands),
             Mixed { most } => Case::mixed(readers, most, commands),
         };
@@ -119,17 +124,17 @@ impl Case {
         self.begins.push(self.bytes.len());
     }
 
-    fn counts(readers: usize, m: usize, commands: usize) -> Case {
-        let format = Format { q: 1, base: 2, n: 1, readers };
+    fn counts(readers: usize, m: usize, layout: u16, commands: usize) -> Case {
+        let format = Format { q: 1, base: 2, layout, n: 1, readers };
         // Large counts, so that each digit takes part.
         let first = (1u64 << (8 * m - 1)) + 1;
         let opened = Hall::open(&vec![256; m], format, first, vec![0]);
         let write = |i| count_write(first + 1 + i as u64);
-        Case::in_turn(opened, commands, 2 * m, write, |reader| vec![4, reader])
+        Case::in_turn(opened, commands, 2 * m - usize::from(layout), write, |reader| vec![4, reader])
     }
 
     fn records(readers: usize, n: usize, commands: usize) -> Case {
-        let format = Format { q: 2, base: 256, n, readers };
+        let format = Format { q: 2, base: 256, layout: PLAIN, n, readers };
         let opened = Hall::open(&[10], format, 0, Random::new(n as u64).bytes(16 * n));
         let write = |i| vec![2, 0, (i % 16) as u8];
         Case::in_turn(opened, commands, 2 * 2 + n, write, |reader| vec![5, reader, 2])
@@ -157,7 +162,7 @@ impl Case {
 
     fn mixed(readers: usize, most: usize, commands: usize) -> Case {
         let mut random = Random::new(readers as u64);
-        let format = Format { q: 2, base: 256, n: 16, readers };
+        let format = Format { q: 2, base: 256, layout: PLAIN, n: 16, readers };
         let lent = random.bytes(16 * 16);
         let mut case = Case::empty(Hall::open(&[10, 24, 60, 60], format, 0, lent));
         // A page that follows, to know who is idle: nothing is refused.

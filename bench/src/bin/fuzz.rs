@@ -2,14 +2,14 @@
 //!
 //!     cargo run --release --bin fuzz -- CALLS [SEED [CASE]]
 //!
-//! A case is a page with a row of calls, each from what the one before left: mostly schedules that go on, with damage
-//! to a byte, a field or a length now and then, and some cases of nothing but garbage. Every call goes to both, and all
-//! that was lent is compared: format, bases, page, writer, readers, buffers, records, commands, log, packed bytes, and
-//! the answer or the outcome. (Of the readers' states all fields are compared; the five bytes of padding have no
-//! contents.) CASE replays that one alone. Exit status 1: some call differed.
+//! A case is a page, plain or folded, with a row of calls, each from what the one before left: mostly schedules that go
+//! on, with damage to a byte, a field or a length now and then, and some cases of nothing but garbage. Every call goes to
+//! both, and all that was lent is compared: format, bases, page, writer, readers, buffers, records, commands, log, packed
+//! bytes, and the answer or the outcome. (Of the readers' states all fields are compared; the five bytes of padding have
+//! no contents.) CASE replays that one alone. Exit status 1: some call differed.
 use std::fmt;
 
-use lagumtay::raw::{self, Answer, Command, Format, Outcome, Reader, Writer, LONGEST_ENTRY, PACKED};
+use lagumtay::raw::{self, Answer, Command, Format, Outcome, Reader, Writer, FOLDED, LONGEST_ENTRY, PACKED, PLAIN};
 use lagumtay::{Entries, Entry};
 use lagumtay_bench::owned::Owned;
 use lagumtay_bench::plain::{self, command_of, number};
@@ -139,6 +139,9 @@ struct Totals {
     /// entries of logs, and steps, by the kind of what they told
     entries: [u64; 5],
     outcomes: [u64; 5],
+    /// calls with a folded page, by their endings, and the reads that ended there
+    folded: [u64; 14],
+    folded_reads: [u64; 5],
     /// entries of copies that part which did not fit, by the bytes left in the log
     parting: [u64; LONGEST_ENTRY],
     differed: u64,
@@ -153,16 +156,31 @@ impl Totals {
         self.commands += answer.done as u64;
         self.command_bytes += answer.taken as u64;
         self.log_bytes += answer.written as u64;
+        let mut reads = [0; 5];
         match call.function {
-            Function::Step => self.outcomes[usize::from(outcome.kind)] += 1,
+            Function::Step => {
+                reads[usize::from(outcome.kind)] += 1;
+                add_to(&mut self.outcomes, reads);
+            }
             Function::Run => {
-                Entries::new(&call.log[..answer.written]).for_each(|entry| self.entries[kind_of(entry)] += 1);
+                Entries::new(&call.log[..answer.written]).for_each(|entry| reads[kind_of(entry)] += 1);
+                add_to(&mut self.entries, reads);
                 let left = if ending == 12 { call.room_left_to_part(answer) } else { None };
                 left.into_iter().for_each(|room| self.parting[room] += 1);
             }
-            _ => {}
+            // These two are lent no page.
+            Function::Pack | Function::Unpack => return,
+            Function::Open | Function::Cancel => {}
+        }
+        if call.lent.format.layout == FOLDED {
+            self.folded[usize::from(ending).min(13)] += 1;
+            add_to(&mut self.folded_reads, reads);
         }
     }
+}
+
+fn add_to(totals: &mut [u64; 5], more: [u64; 5]) {
+    totals.iter_mut().zip(more).for_each(|(total, more)| *total += more);
 }
 
 fn kind_of(entry: Entry) -> usize {
@@ -399,9 +417,10 @@ impl Case<'_> {
         }
         let count = match self.random.below(40) {
             0 => self.random.next_u64(),
-            1 => self.count.wrapping_sub(1),
-            2 => edge_count(&mut self.random, &self.call.lent),
-            3..=6 => self.count.saturating_add(self.random.next_u64() >> self.random.between(8, 63)),
+            // Often the shared digit of a folded page alone tells that this is less.
+            1..=3 => self.count.wrapping_sub(1),
+            4 => edge_count(&mut self.random, &self.call.lent),
+            5..=8 => self.count.saturating_add(self.random.next_u64() >> self.random.between(8, 63)),
             _ => self.count.saturating_add(self.random.below(3) as u64),
         };
         self.count = count.min(self.count.saturating_add(1 << 20));
@@ -426,7 +445,7 @@ impl Case<'_> {
     fn damage(&mut self) {
         let Case { random, call, .. } = self;
         let lent = &mut call.lent;
-        match random.below(18) {
+        match random.below(21) {
             0..=2 => change_byte(random, &mut lent.page),
             3 => change_byte(random, &mut lent.buffers),
             4 | 5 => change_byte(random, &mut call.commands),
@@ -446,12 +465,15 @@ impl Case<'_> {
                 let wild = wild_reader(random, lent);
                 let at = random.below(lent.readers.len());
                 let reader = &mut lent.readers[at];
-                match random.below(6) {
+                // The last place of b, which no reader of a folded page gathers.
+                let last = 8 + lent.bases.len().clamp(1, 8) - 1;
+                match random.below(7) {
                     0 => reader.kind = wild.kind,
                     1 => reader.allowed = wild.allowed,
                     2 => reader.finished = wild.finished,
                     3 => reader.steps = wild.steps,
                     4 => *reader = wild,
+                    5 => reader.digits[last] = random.between(1, 3) as u8,
                     _ => change_byte(random, &mut reader.digits),
                 }
             }
@@ -479,7 +501,26 @@ impl Case<'_> {
                     _ => call.command.count = wild.count,
                 }
             }
-            _ => change_length(random, &mut call.packed),
+            17 => change_length(random, &mut call.packed),
+            // Two steps, one or none before the end of a count on a plain page.
+            18 => {
+                let steps = 2 * lent.bases.len() - random.below(3);
+                let at = random.below(2 * lent.readers.len());
+                match lent.readers.get_mut(at) {
+                    Some(reader) => reader.steps = steps,
+                    None => lent.writer.steps = steps,
+                }
+            }
+            19 => lent.format.layout = wild_layout(random),
+            // What stood on a page of the other layout, with the last byte gone or a byte more.
+            _ => {
+                lent.format.layout ^= 1;
+                let length = match lent.format.layout {
+                    PLAIN => lent.page.len() + 1,
+                    _ => lent.page.len().saturating_sub(1),
+                };
+                lent.page.resize(length, 0);
+            }
         }
     }
 
@@ -541,6 +582,7 @@ fn some_form(random: &mut Random) -> Owned {
     let format = Format {
         q: random.between(1, 4),
         base: base(random),
+        layout: random.of(&[PLAIN, FOLDED]),
         n: random.of(&[1, 1, 2, 2, 3, 5, 8, 17, 64, 255, 256]),
         readers: random.of(&[1, 1, 2, 2, 3, 5, 15, 16]),
     };
@@ -550,19 +592,25 @@ fn some_form(random: &mut Random) -> Owned {
 /// One number of the format becomes another, mostly out of its range.
 fn wild_number(random: &mut Random, format: &mut Format) {
     let wild = random.of(&[0, 1, 2, 4, 5, 16, 17, 256, 257, 1 << 16, 1 << 32, usize::MAX / 2 + 1, usize::MAX]);
-    match random.below(4) {
+    match random.below(5) {
         0 => format.q = wild,
         1 => format.base = random.of(&[0, 1, 2, 3, 256, 257, 0x102, u16::MAX]),
-        2 => format.n = wild,
+        2 => format.layout = wild_layout(random),
+        3 => format.n = wild,
         _ => format.readers = wild,
     }
+}
+
+/// Mostly no layout.
+fn wild_layout(random: &mut Random) -> u16 {
+    random.of(&[PLAIN, FOLDED, 2, 2, 3, 256, 257, u16::MAX])
 }
 
 /// A number of steps or of places: at an edge of the format, small, or beyond all measure.
 fn wild_size(random: &mut Random, lent: &Owned) -> usize {
     let Format { q, n, .. } = lent.format;
     match random.below(4) {
-        0 => (2 * lent.bases.len()).wrapping_sub(random.below(2)),
+        0 => (2 * lent.bases.len()).wrapping_sub(random.below(3)),
         1 => q.wrapping_mul(2).wrapping_add(n).wrapping_sub(random.below(2)),
         2 => random.below(20),
         _ => random.of(&[usize::MAX, usize::MAX / 2, 1 << 32, 256, 1 << 16]),
@@ -688,6 +736,9 @@ fn compared(calls: u64, seed: u64, only: Option<u64>) -> u64 {
     println!("steps: {}, {} told nothing", reads(totals.outcomes), totals.outcomes[0]);
     let [all, with_room] = [0, COUNT_ENTRY].map(|least| totals.parting[least..].iter().sum::<u64>());
     println!("copies that part: {all} times no room for both ends, {with_room} of them with room for one count");
+    let (all, [done, _, _, invalid, _, decreases, ..]) = (totals.folded.iter().sum::<u64>(), totals.folded);
+    println!("folded pages: {all} calls, of which {done} ended with 0, {invalid} with 3, {decreases} with 5;");
+    println!("there {}", reads(totals.folded_reads));
     for (number, count) in totals.endings.iter().enumerate().filter(|(_, &count)| count > 0) {
         println!("ended with {number}: {count}");
     }

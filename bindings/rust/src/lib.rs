@@ -12,6 +12,9 @@
 //!
 //! A count read that meets a write may end as [`Entry::Between`] two counts; [`Entry::shown`] is for who wants one
 //! number.
+//!
+//! A page is laid out plain or folded, as its [`Layout`] says: a folded one has a count digit fewer, and a count write or
+//! read a step fewer.
 
 mod entry;
 pub mod raw;
@@ -29,6 +32,16 @@ pub struct Count(pub u64);
 #[derive(Clone, Copy, Debug, PartialEq, Eq, PartialOrd, Ord, Hash)]
 pub struct Version(pub u32);
 
+/// How the count stands on a page; `as u16` is its number.
+#[repr(u16)]
+#[derive(Clone, Copy, Debug, PartialEq, Eq, Hash)]
+pub enum Layout {
+    /// Twice: c1 and c2 have all their m digits.
+    Plain = raw::PLAIN,
+    /// The last digits of c1 and c2 are one digit, which is written once and read once.
+    Folded = raw::FOLDED,
+}
+
 /// The numbers of a page: its 1 to 8 count bases, q (1 to 4) version places of one base, n (1 to 256) bytes of record,
 /// 1 to 16 readers. Bases are 2 to 256.
 #[derive(Clone, Debug, PartialEq, Eq)]
@@ -36,8 +49,19 @@ pub struct Format {
     pub bases: Vec<u16>,
     pub q: usize,
     pub base: u16,
+    pub layout: Layout,
     pub n: usize,
     pub readers: usize,
+}
+
+impl Format {
+    /// The count digits on the page, and the steps of a count write or read: 2m, on a folded page 2m - 1.
+    pub fn count_steps(&self) -> usize {
+        match self.layout {
+            Layout::Plain => 2 * self.bases.len(),
+            Layout::Folded => (2 * self.bases.len()).saturating_sub(1),
+        }
+    }
 }
 
 /// Why a call or a command was refused; `as u8` is its number.
@@ -193,7 +217,7 @@ impl Page {
         // A number outside its range is refused before any length is looked at; until then it must not fill the memory.
         let (q, n, readers) = (format.q.min(4), format.n.min(256), format.readers.min(16));
         let mut page = Page {
-            page: vec![0; 2 * format.bases.len() + 2 * q + n],
+            page: vec![0; format.count_steps() + 2 * q + n],
             writer: raw::Writer::default(),
             readers: vec![raw::Reader::default(); readers],
             buffers: vec![0; readers * n],
@@ -249,7 +273,13 @@ impl Page {
     /// A call with what it is lent. It is made in here, where its format lives.
     fn lend<T>(&mut self, call: impl FnOnce(&mut Lent) -> T) -> T {
         let Page { format, page, writer, readers, buffers } = self;
-        let numbers = raw::Format { q: format.q, base: format.base, n: format.n, readers: format.readers };
+        let numbers = raw::Format {
+            q: format.q,
+            base: format.base,
+            layout: format.layout as u16,
+            n: format.n,
+            readers: format.readers,
+        };
         call(&mut Lent { format: &numbers, bases: &format.bases, page, writer, readers, buffers })
     }
 
@@ -262,7 +292,8 @@ impl Page {
         &self.format
     }
 
-    /// The page's bytes: c1, c2, v1, the record, v2.
+    /// The page's bytes: c1, c2, v1, the record, v2. On a folded page the shared digit is the last of c1, and c2 has its
+    /// own digits alone.
     pub fn bytes(&self) -> &[u8] {
         &self.page
     }

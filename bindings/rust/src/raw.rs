@@ -1,12 +1,20 @@
 //! The archive's calls for a caller who owns the memory, as `include/lagumtay.h` has them. Endings are the bare numbers
 //! that the archive answers.
 
-/// Mirrors `lagumtay_format`: the numbers of a page but for its count bases, which are lent beside it.
+/// Mirrors `LAGUMTAY_PLAIN`: the count stands on the page twice.
+pub const PLAIN: u16 = 0;
+
+/// Mirrors `LAGUMTAY_FOLDED`: the last digits of both copies of the count are one digit.
+pub const FOLDED: u16 = 1;
+
+/// Mirrors `lagumtay_format`: the numbers of a page but for its count bases, which are lent beside it. The layout is
+/// [`PLAIN`] or [`FOLDED`]; any other is refused.
 #[repr(C)]
 #[derive(Clone, Copy, Debug, Default, PartialEq, Eq)]
 pub struct Format {
     pub q: usize,
     pub base: u16,
+    pub layout: u16,
     pub n: usize,
     pub readers: usize,
 }
@@ -25,7 +33,7 @@ pub struct Writer {
 
 /// Mirrors `lagumtay_reader`: a reader's state. Kind 0: idle; 1: a count read; 2: a record read. Digits gathered of c1
 /// (or v2) stand from 0 on, those of c2 (or v1) from 8 on; those not gathered, and fields that the kind does not use,
-/// are zero.
+/// are zero. The shared digit of a folded page stands with those of c1 alone.
 #[repr(C)]
 #[derive(Clone, Copy, Debug, Default, PartialEq, Eq)]
 pub struct Reader {
@@ -241,7 +249,7 @@ mod tests {
 
     #[test]
     fn structs_have_the_layout_of_the_header() {
-        assert_eq!([offset_of!(Format, q), offset_of!(Format, base)], [0, 8]);
+        assert_eq!([offset_of!(Format, q), offset_of!(Format, base), offset_of!(Format, layout)], [0, 8, 10]);
         assert_eq!([offset_of!(Format, n), offset_of!(Format, readers)], [16, 24]);
         assert_eq!([offset_of!(Writer, count), offset_of!(Writer, index), offset_of!(Writer, steps)], [0, 8, 16]);
         assert_eq!([offset_of!(Writer, version), offset_of!(Writer, kind)], [24, 28]);
@@ -286,7 +294,7 @@ mod tests {
         /// What the calls are lent, and the log.
         fn lend(&mut self) -> (Lent<'_>, &mut [u8]) {
             let Memory { page, writer, readers, buffers, log } = self;
-            let format = &Format { q: 2, base: 11, n: 5, readers: 3 };
+            let format = &Format { q: 2, base: 11, layout: PLAIN, n: 5, readers: 3 };
             (Lent { format, bases: &[7, 8, 9], page, writer, readers, buffers }, log)
         }
 
@@ -353,6 +361,17 @@ mod tests {
         let told = Outcome { kind: 4, reader: 1, low: 143, high: 288, ..Outcome::default() };
         assert_eq!(stepped.step(Command { kind: 6, reader: 1, ..Command::default() }), (told, 0));
         assert_eq!([stepped.readers, ran.readers], [[Reader::default(); 3]; 2]);
+    }
+
+    /// The layout is seen where it stands, and both its bytes are.
+    #[test]
+    fn the_archive_reads_the_layout() {
+        let mut memory = Memory::opened();
+        for (layout, why) in [(PLAIN, 0), (FOLDED, 2), (2, 1), (256, 1), (257, 1), (u16::MAX, 1)] {
+            let (Lent { format, bases, page, writer, readers, buffers }, _) = memory.lend();
+            let format = &Format { layout, ..*format };
+            assert_eq!(Lent { format, bases, page, writer, readers, buffers }.open(100, &RECORDS[..5]), why);
+        }
     }
 
     /// A value that no steps could leave is seen in each field.

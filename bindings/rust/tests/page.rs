@@ -1,9 +1,9 @@
 //! The bindings against document 01: its printed run, its trap, and the refusals that a caller can meet.
 use lagumtay::Command::*;
-use lagumtay::{commands, Command, Count, Entries, Entry, Format, Page, Refusal, Version};
+use lagumtay::{commands, Command, Count, Entries, Entry, Format, Layout, Page, Refusal, Version};
 
 fn format(bases: &[u16]) -> Format {
-    Format { bases: bases.to_vec(), q: 1, base: 10, n: 2, readers: 2 }
+    Format { bases: bases.to_vec(), q: 1, base: 10, layout: Layout::Plain, n: 2, readers: 2 }
 }
 
 fn opened(bases: &[u16], count: u64) -> Page {
