@@ -13,7 +13,7 @@ pub fn good_format(format: Format, bases: &[u16]) -> bool
     if !radix::counts::good(bases) {
         return false;
     }
-    if 1 < format.layout {
+    if protocol::FOLDED < format.layout {
         return false;
     }
     if format.q < 1 || 4 < format.q {

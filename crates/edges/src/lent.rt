@@ -69,7 +69,7 @@ fn places(count: usize) -> usize
 fn own(places: usize, layout: u16) -> usize
     ensures { λ r. ⌜ r ≤ places ⌝ }
 {
-    if layout == 0 {
+    if layout == protocol::PLAIN {
         return places;
     }
     if places == 0 {

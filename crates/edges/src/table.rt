@@ -96,9 +96,13 @@ fn step(text: &[u8], l: Lent, x: u64) -> Lent {
 
 fn layout(text: &[u8]) -> u16 {
     if text.len() == 0 {
-        return 0;
+        return protocol::PLAIN;
     }
-    if text[0] == b'f' { 1 } else { 0 }
+    if text[0] == b'f' {
+        protocol::FOLDED
+    } else {
+        protocol::PLAIN
+    }
 }
 
 fn opened(text: &[u8]) -> Lent {

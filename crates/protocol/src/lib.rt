@@ -4,8 +4,13 @@ ghost use Rattle.protocol.specs.Outcome.{refusalNumber, endingNumber};
 use radix::Count;
 use radix::Version;
 
+// The layouts of a page: each copy of the count has its own digits, or their last digits are one digit.
+pub const PLAIN: u16 = 0;
+
+pub const FOLDED: u16 = 1;
+
 // The numbers of a page, document 01's form, but for its count bases, which are lent as a slice: m is how many
-// they are. Layout 0: a plain page; 1: a folded one, on which the last digits of both copies are one digit.
+// they are.
 #[repr(C)]
 pub struct Format {
     pub q: usize,

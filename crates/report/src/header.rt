@@ -53,7 +53,7 @@ fn format(s: &[u8], m: usize) -> Format
     Format {
         q: bytes::index(s[1 + 2 * m]),
         base: bytes::base_at(s, 2 + 2 * m),
-        layout: 0,
+        layout: protocol::PLAIN,
         n: bytes::length_at(s, 4 + 2 * m),
         readers: bytes::index(s[6 + 2 * m]),
     }
