@@ -1,6 +1,6 @@
 #!/usr/bin/env python3
 """Print the run of a schedule, as the program `runlist` must. This is a second implementation in plain Python, written from
-documents 01 and 02 alone; it shares nothing with the proved code, so that a fault in one is seen against the other. It reads
+documents 01 and 02; it shares nothing with the proved code, so that a fault in one is seen against the other. It reads
 standard input; `printed` does the same for bytes in memory. The program has plain pages only; the page here can be folded
 too, for those who name that layout."""
 

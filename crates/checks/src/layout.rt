@@ -29,6 +29,10 @@ pub fn own(format: Format, bases: &[u16]) -> usize
     ensures { λ r. ⌜ r ≡ ownOf (formOf (now (bases .entry)) format) ⌝ }
 {
     let m = bases.len();
+    // The common case is told apart, which is cheaper.
+    if format.layout == protocol::PLAIN {
+        return m;
+    }
     let shared = format.layout as usize;
     if m < shared {
         return 0;
@@ -194,21 +198,15 @@ pub fn version_digits(format: Format, bases: &[u16], k: usize) -> usize
 
 // The digit of step k, where a number's digits are visited out, and then back from the last one.
 pub fn there_and_back(out: usize, back: usize, k: usize) -> usize
-    ensures { λ r. ⌜ r ≡ cond (leb out 8 && leb back 8) (thereAndBack out back k) 0 ⌝ }
+    ensures { λ r. ⌜ r ≡ thereAndBack out back k ⌝ }
 {
-    if 8 < out {
-        return 0;
-    }
-    if 8 < back {
-        return 0;
-    }
     if k < out {
         return k;
     }
-    if out + back <= k {
+    if back <= k - out {
         return 0;
     }
-    out + back - 1 - k
+    back - 1 - (k - out)
 }
 
 // Where a reader keeps the digit of step k, of so many there and so many back.

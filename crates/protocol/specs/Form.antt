@@ -9,8 +9,8 @@ use Rattle.protocol.specs.declared.Format.{Format}
 
 pub record Form : Type 0 where
   pub bases : List ℕ
-  -- how many of its last digits a copy shares with the other one: none on a plain page, one on a folded page, whose saving
-  -- ends SRC report 27
+  -- how many of its last digits a copy shares with the other one: none on a plain page, one on a folded page (the saving
+  -- with which SRC report 27 ends)
   pub shared : ℕ
   pub q : ℕ
   pub base : ℕ

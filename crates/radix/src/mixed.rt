@@ -3,7 +3,7 @@
 ghost use mathlib.Core.Path.{_≡_};
 ghost use mathlib.Core.Bool.{true};
 ghost use mathlib.Core.List.{_++_};
-ghost use Prim.Native.Nat.{_+_, _/_, _%_, _≤_, _<_};
+ghost use Prim.Native.Nat.{_+_, _*_, _/_, _%_, _^_, _≤_, _<_};
 ghost use lib.Dec.{ltb};
 ghost use lib.ListN.{length};
 ghost use Rattle.radix.specs.Digits.{product, value, digits, valid};
@@ -148,12 +148,13 @@ pub(crate) fn below(bases: &[u16], digits: &[u8]) -> bool
     true
 }
 
-// The value of digits that are below their bases, from the left.
-pub(crate) fn horner(bases: &[u16], digits: &[u8]) -> u64
-    requires { ⌜ (goodBases (now bases) ≡ true) × (valid (now bases) (now digits) ≡ true) ⌝ }
-    ensures { λ r. ⌜ r ≡ value (now (bases .entry)) (now (digits .entry)) ⌝ }
+// A number with digits after it: it is moved up by their bases.
+fn join(before: u64, bases: &[u16], digits: &[u8]) -> u64
+    requires { ⌜ (goodBases (now bases) ≡ true) × (valid (now bases) (now digits) ≡ true)
+        × (before * product (now bases) + value (now bases) (now digits) < 2 ^ 64) ⌝ }
+    ensures { λ r. ⌜ r ≡ before * product (now (bases .entry)) + value (now (bases .entry)) (now (digits .entry)) ⌝ }
 {
-    let mut x: u64 = 0;
+    let mut x = before;
     let mut i: usize = 0;
     while i < bases.len() {
         x = x * wide(bases[i]) + digits[i] as u64;
@@ -162,19 +163,12 @@ pub(crate) fn horner(bases: &[u16], digits: &[u8]) -> u64
     x
 }
 
-pub(crate) fn read(bases: &[u16], digits: &[u8]) -> Number
-    ensures { λ r. ⌜ r ≡ valueOf (now (bases .entry)) (now (digits .entry)) ⌝ }
+// The value of digits that are below their bases, from the left.
+pub(crate) fn horner(bases: &[u16], digits: &[u8]) -> u64
+    requires { ⌜ (goodBases (now bases) ≡ true) × (valid (now bases) (now digits) ≡ true) ⌝ }
+    ensures { λ r. ⌜ r ≡ value (now (bases .entry)) (now (digits .entry)) ⌝ }
 {
-    if !good(bases) {
-        return Number::Refused(Fault::BadBases);
-    }
-    if digits.len() != bases.len() {
-        return Number::Refused(Fault::WrongLength);
-    }
-    if !below(bases, digits) {
-        return Number::Refused(Fault::BadDigit);
-    }
-    Number::Is(horner(bases, digits))
+    join(0, bases, digits)
 }
 
 // The digits lie in two pieces, as many as bases.
@@ -189,23 +183,19 @@ fn below_parts(bases: &[u16], first: &[u8], rest: &[u8]) -> bool
     below(&bases[k..], rest)
 }
 
-// The first piece is not empty, so that at most seven bases follow it.
 fn horner_parts(bases: &[u16], first: &[u8], rest: &[u8]) -> u64
     requires { ⌜ (goodBases (now bases) ≡ true) × (valid (now bases) (now first ++ now rest) ≡ true)
-        × (0 < length (now first)) × (length (now first) + length (now rest) ≡ length (now bases)) ⌝ }
+        × (length (now first) + length (now rest) ≡ length (now bases)) ⌝ }
     ensures { λ r. ⌜ r ≡ value (now (bases .entry)) (now (first .entry) ++ now (rest .entry)) ⌝ }
 {
     let k = first.len();
-    horner(&bases[..k], first) * weight(&bases[k..]) + horner(&bases[k..], rest)
+    join(horner(&bases[..k], first), &bases[k..], rest)
 }
 
 pub(crate) fn read_parts(bases: &[u16], first: &[u8], rest: &[u8]) -> Number
     ensures { λ r. ⌜ r ≡ valueOf (now (bases .entry)) (now (first .entry) ++ now (rest .entry)) ⌝ }
 {
     let k = first.len();
-    if k == 0 {
-        return read(bases, rest);
-    }
     if !good(bases) {
         return Number::Refused(Fault::BadBases);
     }
@@ -219,4 +209,11 @@ pub(crate) fn read_parts(bases: &[u16], first: &[u8], rest: &[u8]) -> Number
         return Number::Refused(Fault::BadDigit);
     }
     Number::Is(horner_parts(bases, first, rest))
+}
+
+pub(crate) fn read(bases: &[u16], digits: &[u8]) -> Number
+    ensures { λ r. ⌜ r ≡ valueOf (now (bases .entry)) (now (digits .entry)) ⌝ }
+{
+    let end = digits.len();
+    read_parts(bases, digits, &digits[end..])
 }

@@ -11,8 +11,7 @@ use borrow.Author.Tests.{lt-ltb, le-ltb, le-leb, lt-leb}
 use Rattle.radix.specs.Digits.{product, value, digits, valid}
 use Rattle.radix.specs.Answers.{all, goodBase, goodBases}
 use Rattle.radix.proofs.Theorems.Division.{regroup}
-use Rattle.radix.proofs.Theorems.RoundTrip.{valid-sound, value-lt}
-use Rattle.radix.proofs.Numbers.Products.{rest-pos, product-eight, product-seven}
+use Rattle.radix.proofs.Numbers.Products.{rest-pos, product-seven}
 use Rattle.radix.proofs.Numbers.Places.{from, from-left}
 
 -- ---- the test of the bases
@@ -71,17 +70,10 @@ module _ (bs ds : List ℕ) (i x : ℕ) (h : i < length bs) (g : i < length ds) 
       )
 
   pub horner-fits :
-      goodBases bs ≡ true → valid bs ds ≡ true →
-      x * product (drop i bs) + value (drop i bs) (drop i ds) ≡ value bs ds →
-      x * getD bs i 0 + getD ds i 0 < 2 ^ 64
-  horner-fits k v e =
-      omega (
-        arith,
-        le-mul-of-pos-right (x * getD bs i 0 + getD ds i 0) (rest-pos (i + 1) bs k),
-        horner-on,
-        value-lt (valid-sound bs ds v),
-        product-eight bs k,
-      )
+      (whole : ℕ) → goodBases bs ≡ true → whole < 2 ^ 64 →
+      x * product (drop i bs) + value (drop i bs) (drop i ds) ≡ whole → x * getD bs i 0 + getD ds i 0 < 2 ^ 64
+  horner-fits whole k f e =
+      omega (arith, le-mul-of-pos-right (x * getD bs i 0 + getD ds i 0) (rest-pos (i + 1) bs k), horner-on)
 
 -- ---- the digits, from the right
 

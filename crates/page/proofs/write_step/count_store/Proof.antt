@@ -2,12 +2,9 @@
 use borrow.Author.Needs.{needs}
 use mathlib.Core.Path.{_≡_, ap, ap₂, _∙_}
 use mathlib.Core.List.{List}
-use mathlib.Core.Bool.{_&&_, cond}
 use Prim.Native.Nat.{ℕ, _<_}
 use native.Mathlib.Omega.{arith}
-use lib.Dec.{leb}
 use lib.ListN.{getD}
-use borrow.Author.Tests.{le-leb}
 use Rattle.radix.specs.Digits.{digits}
 use Rattle.protocol.specs.Form.{Form, formOf, m, own}
 use Rattle.protocol.proofs.InRange.{in-range}
@@ -32,11 +29,8 @@ place : (c : tie.After-there-and-back) →
     c .there-and-back .result ≡ thereAndBack (own (form s)) (m (form s)) (s .args .w .steps)
 place c =
     let s = enter c in
-    let places = in-range (form s) (s .pre .0) .places in
-    let k = s .args .w .steps in
     c .there-and-back .ensures
-    ∙ ap (λ o. cond (leb o 8 && leb (m (form s)) 8) (thereAndBack o (m (form s)) k) 0) (c .before .own .ensures)
-    ∙ rw (le-leb (own (form s)) 8 (omega (arith, places)), le-leb (m (form s)) 8 (places .1))
+    ∙ ap (λ o. thereAndBack o (m (form s)) (s .args .w .steps)) (c .before .own .ensures)
 
 inside : (c : tie.After-there-and-back) →
     c .there-and-back .result < m (form (enter c))

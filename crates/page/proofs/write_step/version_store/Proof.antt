@@ -5,7 +5,6 @@ use mathlib.Core.List.{List}
 use Prim.Native.Nat.{ℕ, _+_, _<_}
 use native.Mathlib.Omega.{arith}
 use lib.ListN.{getD}
-use borrow.Author.Tests.{le-leb}
 use Rattle.radix.specs.Digits.{digits}
 use Rattle.protocol.specs.Form.{Form, formOf, versionBases}
 use Rattle.protocol.specs.Layout.{recordDigits}
@@ -38,8 +37,7 @@ place t =
     let s = enter t in
     let q = s .args .format .q in
     t .there-and-back .ensures
-    ∙ rw (le-leb q 8 (omega (arith, in-range (form s) (s .pre .0) .versions)))
-    (ap (thereAndBack q q) (t .before .version-digits .ensures ∙ of-small (form s) _ (s .pre .0)))
+    ∙ ap (thereAndBack q q) (t .before .version-digits .ensures ∙ of-small (form s) _ (s .pre .0))
 
 -- what the step is of
 step : (s : tie.Start) →

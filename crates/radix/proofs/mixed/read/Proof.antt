@@ -1,53 +1,37 @@
--- Each return is one branch of `valueOf`.
+-- Nothing follows the digits.
 use borrow.Author.Needs.{needs}
-use borrow.Author.Tests.{not-true, not-false, eq-eqb, ne-eqb}
-use mathlib.Core.Path.{_≡_, sym, _∙_}
-use mathlib.Core.Bool.{true}
-use Rattle.radix.specs.Digits.{valid}
-use Rattle.radix.specs.Answers.{goodBases}
+use mathlib.Core.Path.{ap, _∙_}
+use mathlib.Core.List.{List, _++_, append-nil}
+use Prim.Native.Nat.{ℕ}
+use lib.ListN.{length}
+use lib.Seq.{drop-length}
+use Rattle.radix.specs.Answers.{valueOf}
+use Rattle.radix.proofs.Numbers.Places.{lent-rest}
 use Rattle.radix.proofs.mixed.read.Statement.{statement}
 use Rattle.radix.proofs.mixed.read.Tie as tie
 
-good-requires : tie.Need-good-requires
-good-requires c κs = search needs
+sub-read-parts : tie.Need-sub-read-parts
+sub-read-parts c = search needs
+
+part-read-parts-start : tie.Need-part-read-parts-start
+part-read-parts-start c = search needs
+
+part-read-parts-end : tie.Need-part-read-parts-end
+part-read-parts-end c = search needs
+
+read-parts-requires : tie.Need-read-parts-requires
+read-parts-requires c κs = search needs
 
 returns : tie.Need-returns
-returns c = rw (sym (c .before .good2 .ensures) ∙ not-true _ (c .if1 .taken))
-
--- past the first test the bases are good
-good-here : (c : tie.Else1) → goodBases (c .before .before .before .before .args .bases .now) ≡ true
-good-here c = sym (c .before .good2 .ensures) ∙ not-false _ (c .if1 .left)
-
--- past the third the digits are below their bases
-valid-here : (c : tie.Else3) →
-    let a = c .before .before .before .before .before .before .before .args in
-    valid (a .bases .now) (a .digits .now) ≡ true
-valid-here c = sym (c .before .below .ensures) ∙ not-false _ (c .if3 .left)
-
-returns-2 : tie.Need-returns-2
-returns-2 c = rw (good-here (c .before), ne-eqb _ _ (c .if2 .taken))
-
-below-requires : tie.Need-below-requires
-below-requires c κs = search needs
-
-returns-3 : tie.Need-returns-3
-returns-3 c =
-    let e = c .before .before in
-    rw (
-      good-here (e .before),
-      eq-eqb _ _ (e .if2 .left),
-      sym (c .before .below .ensures) ∙ not-true _ (c .if3 .taken),
-    )
-
-horner-requires : tie.Need-horner-requires
-horner-requires c κs = (good-here (c .before .before .before), valid-here c)
-
-returns-4 : tie.Need-returns-4
-returns-4 c =
-    let e = c .before .before .before in
-    rw (good-here (e .before), eq-eqb _ _ (e .if2 .left), valid-here (c .before), c .horner .ensures)
+returns c =
+    let a = c .before .before .before .before .args in
+    let n = length (a .digits .now) in
+    c .read-parts .ensures
+    ∙ ap (λ (l : List ℕ). valueOf (a .bases .now) (a .digits .now ++ l))
+    (lent-rest n (a .digits .now) ∙ drop-length (a .digits .now))
+    ∙ ap (valueOf (a .bases .now)) (append-nil (a .digits .now))
 
 pub read-spec : {M : Type 1} → statement M
 read-spec =
     tie.close
-    (tie.spec good-requires returns returns-2 below-requires returns-3 horner-requires returns-4)
+    (tie.spec sub-read-parts part-read-parts-start part-read-parts-end read-parts-requires returns)
