@@ -1,9 +1,11 @@
 // Zeros and the first digits of a page.
 ghost use mathlib.Core.Path.{_≡_};
 ghost use mathlib.Core.Bool.{true};
+ghost use mathlib.Core.List.{_++_};
 ghost use Prim.Native.Nat.{_+_, _≤_, _<_};
-ghost use lib.ListN.{length, replicate};
-ghost use Rattle.radix.specs.Digits.{product};
+ghost use lib.ListN.{length, drop, replicate};
+ghost use Rattle.radix.specs.Digits.{product, digits};
+ghost use Rattle.radix.specs.Answers.{goodBases};
 ghost use Rattle.protocol.specs.Form.{formOf, goodForm};
 ghost use Rattle.protocol.specs.State.{opened};
 ghost use Rattle.codec.specs.Entry.{overlay};
@@ -32,6 +34,17 @@ fn put_zeros(out: &mut [u8], at: usize, k: usize)
     zero(&mut out[at..end]);
 }
 
+// The digits of a count, at the front.
+fn put_count(bases: &[u16], c: Count, out: &mut [u8])
+    requires { ⌜ (goodBases (now bases) ≡ true) × (c .0 < product (now bases))
+        × (length (now bases) ≤ length (now out)) ⌝ }
+    ensures { λ r. ⌜ now (out .exit)
+        ≡ digits (now (bases .entry)) (c .0) ++ drop (length (now (bases .entry))) (now (out .entry)) ⌝ }
+{
+    let m = bases.len();
+    radix::counts::write(bases, Count(c.0), &mut out[..m]);
+}
+
 // Both copies of the first count, version 0 twice, the first record.
 pub(crate) fn fill_page(format: Format, bases: &[u16], page: &mut [u8], c: Count, record: &[u8])
     requires { ⌜ (goodForm (formOf (now bases) format) ≡ true)
@@ -42,11 +55,10 @@ pub(crate) fn fill_page(format: Format, bases: &[u16], page: &mut [u8], c: Count
 {
     let m = bases.len();
     let q = format.q;
-    let both = m + m;
     let end = layout::count_steps(format, bases);
-    radix::counts::write(bases, Count(c.0), &mut page[..m]);
+    put_count(bases, Count(c.0), page);
     // Where the copies share a digit, v1 covers the last one of these.
-    radix::counts::write(bases, Count(c.0), &mut page[m..both]);
+    put_count(bases, Count(c.0), &mut page[m..]);
     put_zeros(page, end, q);
     codec::put_bytes(page, layout::content_start(format, bases), record);
     put_zeros(page, layout::second_version(format, bases), q);

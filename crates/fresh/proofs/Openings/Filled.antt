@@ -5,11 +5,22 @@ use mathlib.Core.Bool.{true}
 use Prim.Native.Nat.{ℕ, _+_, _-_, _≤_, _<_}
 use native.Mathlib.Nat.{zero-div, zero-mod}
 use native.Mathlib.Omega.{arith}
-use lib.ListN.{length, take, drop, replicate, length-replicate, length-append, length-take, length-drop}
-use lib.Seq.{take-at, take-append-le, take-append-add, drop-drop, drop-length}
+use lib.ListN.{
+  length,
+  take,
+  drop,
+  replicate,
+  length-replicate,
+  length-append,
+  length-take,
+  length-drop,
+  drop-of-length-le,
+}
+use lib.Seq.{take-at, drop-at, take-append-le, take-append-add, drop-drop, drop-length}
 use borrow.Author.Tests.{lt-ltb, eq-eqb}
 use Rattle.radix.specs.Digits.{digits, product}
 use Rattle.radix.specs.Answers.{goodBases, digitsInto}
+use Rattle.radix.proofs.Numbers.Places.{lent-rest}
 use Rattle.codec.specs.Entry.{overlay}
 use Rattle.codec.proofs.Overlays.{overlay-length, take-overlay}
 
@@ -40,17 +51,18 @@ abbrev pub once : (m : ℕ) → List ℕ → List ℕ → List ℕ
 once m d p = d ++ drop m p
 
 abbrev pub twice : (m : ℕ) → List ℕ → List ℕ → List ℕ
-twice m d p = take m (once m d p) ++ (d ++ drop (m + m - m) (drop m (once m d p)))
+twice m d p = d ++ d ++ drop m (drop m p)
 
+-- the second write is lent all from m on
 pub both-written :
-    (m end : ℕ) (p z : List ℕ) {x y d : List ℕ} → x ≡ d → y ≡ d →
-    overlay (take m (once m x p) ++ (y ++ drop (m + m - m) (drop m (once m x p)))) end z ≡ overlay (twice m d p) end z
-both-written m end p z e f = rw (e, f)
-
--- what the second write is lent
-pub second-length :
-    (m : ℕ) (d p : List ℕ) → length d ≡ m → m + m ≤ length p → length (take (m + m - m) (drop m (once m d p))) ≡ m
-second-length m d p e h = simp (length-take, length-drop, length-append) (omega arith)
+    (m : ℕ) (d p : List ℕ) {x y : List ℕ} → length d ≡ m → x ≡ once m d p →
+    y ≡ d ++ drop m (take (length x - m) (drop m x)) → take m x ++ (y ++ drop (length x - m) (drop m x)) ≡ twice m d p
+both-written m d p {x} {y} e f g =
+    let front : take m x ≡ d = ap (take m) f ∙ take-at d (drop m p) m e in
+    let rest : drop m x ≡ drop m p = ap (drop m) f ∙ drop-at d (drop m p) m e in
+    let few : length (drop m x) ≤ length x - m = omega (arith, length-drop m x) in
+    let none : drop (length x - m) (drop m x) ≡ [] = drop-of-length-le (drop m x) few in
+    rw (g, lent-rest m x, none, front, rest, append-nil) (sym (append-assoc d d (drop m (drop m p))))
 
 -- the last part
 last-written : (p : List ℕ) (at : ℕ) (s : List ℕ) → at + length s ≡ length p → overlay p at s ≡ take at p ++ s
@@ -64,14 +76,7 @@ module _ (p d z r : List ℕ) (m own end q n : ℕ) (w : end ≡ m + own) (few :
 
   twice-written : take end (twice m d p) ≡ d ++ take own d
   twice-written =
-      let rest = drop (m + m - m) (drop m (once m d p)) in
-      rw (
-        take-at d (drop m p) m ed,
-        ← append-assoc d d rest,
-        take-append-le end (d ++ d) rest (simp length-append (omega arith)),
-        w,
-        ← ed,
-      )
+      rw (take-append-le end (d ++ d) (drop m (drop m p)) (simp length-append (omega arith)), w, ← ed)
       (take-append-add d d own)
 
   -- the whole page

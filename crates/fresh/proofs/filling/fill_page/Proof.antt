@@ -1,10 +1,10 @@
 -- The page is written from the left to the right, part by part.
 use borrow.Author.Needs.{needs}
 use mathlib.Core.Path.{_≡_, sym, ap, _∙_}
-use Prim.Native.Nat.{ℕ, _≤_, _+_, _-_}
+use mathlib.Core.List.{List}
+use Prim.Native.Nat.{ℕ, _≤_, _+_}
 use native.Mathlib.Omega.{arith}
-use lib.ListN.{length, take, drop, replicate, length-replicate}
-use lib.Seq.{length-take-le}
+use lib.ListN.{length, replicate, length-take, length-drop, length-replicate}
 use Rattle.radix.specs.Digits.{digits}
 use Rattle.radix.proofs.Theorems.RoundTrip.{length-digits}
 use Rattle.protocol.specs.Form.{formOf, own, versionBases}
@@ -13,44 +13,36 @@ use Rattle.protocol.proofs.InRange.{in-range}
 use Rattle.codec.specs.Entry.{overlay}
 use Rattle.checks.proofs.Small.{of-small}
 use Rattle.checks.proofs.Forms.{good-counts}
-use Rattle.fresh.proofs.Openings.Filled.{zero-digits, whole-digits, once, twice, both-written, second-length, filled}
+use Rattle.fresh.proofs.Openings.Filled.{zero-digits, twice, both-written, filled}
 use Rattle.codec.proofs.Pastes.{pasted-there}
 use Rattle.fresh.proofs.filling.fill_page.Statement.{statement}
 use Rattle.fresh.proofs.filling.fill_page.Tie as tie
 
-add-both : tie.Need-add-both
-add-both c = search needs
-
 count-steps-requires : tie.Need-count-steps-requires
 count-steps-requires c κs = search needs
-
-slice-relend-prefix-write : tie.Need-slice-relend-prefix-write
-slice-relend-prefix-write c = search needs
-
-slice-aggregate-write : tie.Need-slice-aggregate-write
-slice-aggregate-write c =
-    let s = c .before .before .before .before .before in
-    let m : length (s .args .bases .now) ≤ length (s .args .page .now) = omega arith in
-    sym (length-take-le _ _ m)
-
-write-requires : tie.Need-write-requires
-write-requires c κs = search needs
-
-sub-write : tie.Need-sub-write
-sub-write c = search needs
-
-part-write-start : tie.Need-part-write-start
-part-write-start c = search needs
 
 -- both copies whole lie within the page, where they share a digit too
 both-fit : (s : tie.Start) → length (s .args .bases .now) + length (s .args .bases .now) ≤ length (s .args .page .now)
 both-fit s = let r = in-range _ (s .pre .0) in omega (arith, s .pre .1)
 
-part-write-end : tie.Need-part-write-end
-part-write-end c = omega (arith, both-fit (c .before .before .before .before .before .before .before .before))
+put-count-requires : tie.Need-put-count-requires
+put-count-requires c κs =
+    let s = c .before .before .before .before .before in
+    (good-counts _ (s .pre .0), s .pre .3, omega (arith, both-fit s))
 
-write-requires-2 : tie.Need-write-requires-2
-write-requires-2 c κs = search needs
+sub-put-count : tie.Need-sub-put-count
+sub-put-count c = search needs
+
+part-put-count-start : tie.Need-part-put-count-start
+part-put-count-start c = search needs
+
+part-put-count-end : tie.Need-part-put-count-end
+part-put-count-end c = search needs
+
+put-count-requires-2 : tie.Need-put-count-requires-2
+put-count-requires-2 c κs =
+    let s = c .before .before .before .before .before .before .before .before .before in
+    (good-counts _ (s .pre .0), s .pre .3, simp (length-take, length-drop) (omega (arith, both-fit s)))
 
 put-zeros-requires : tie.Need-put-zeros-requires
 put-zeros-requires c κs = search needs
@@ -59,10 +51,10 @@ content-start-requires : tie.Need-content-start-requires
 content-start-requires c κs = search needs
 
 -- where the function began, seen from each call
-abbrev start₁ : tie.After-write → tie.Start
+abbrev start₁ : tie.After-put-count → tie.Start
 start₁ c = c .before .before .before .before .before .before
 
-abbrev start₂ : tie.After-write2 → tie.Start
+abbrev start₂ : tie.After-put-count2 → tie.Start
 start₂ c = start₁ (c .before .before .before .before)
 
 abbrev start₃ : tie.After-put-zeros → tie.Start
@@ -75,7 +67,7 @@ abbrev start₅ : tie.After-second-version → tie.Start
 start₅ c = start₄ (c .before .before .before .before .before)
 
 -- the places of the record's bytes and of the second version
-abbrev end₂ : tie.After-write2 → ℕ
+abbrev end₂ : tie.After-put-count2 → ℕ
 end₂ c = c .before .before .before .before .before .before .count-steps .result
 
 abbrev end₃ : tie.After-put-zeros → ℕ
@@ -119,32 +111,6 @@ put-zeros-requires-2 c κs = omega (arith, version-here c)
 same-length : tie.Need-same-length
 same-length c = search needs
 
--- what each of the two writes of digits leaves
-first-here : (c : tie.After-write) →
-    let a = start₁ c .args in
-    c .write .last .1 .1 .0 ≡ digits (a .bases .now) (a .c .0)
-first-here c =
-    let s = start₁ c in
-    let b = s .args .bases .now in
-    let h : length b ≤ length (s .args .page .now) = omega arith in
-    ap (λ x. x .out) (c .write .ensures)
-    ∙ whole-digits b (s .args .c .0) (take (length b) (s .args .page .now)) (good-counts _ (s .pre .0))
-    (length-take-le _ _ h) (s .pre .3)
-
-second-here : (c : tie.After-write2) →
-    let a = start₂ c .args in
-    c .write2 .last .1 .1 .0 ≡ digits (a .bases .now) (a .c .0)
-second-here c =
-    let s = start₂ c in
-    let b = s .args .bases .now in
-    let m = length b in
-    let w = c .before .before .before .before in
-    let d = w .write .last .1 .1 .0 in
-    let e : length d ≡ m = ap length (first-here w) ∙ length-digits b (s .args .c .0) in
-    ap (λ x. x .out) (c .write2 .ensures)
-    ∙ whole-digits b (s .args .c .0) (take (m + m - m) (drop m (once m d (s .args .page .now)))) (good-counts _ (s .pre .0))
-    (second-length m d (s .args .page .now) e (both-fit s)) (s .pre .3)
-
 -- the page after both, and after the first zeros
 zeros-here : (c : tie.After-put-zeros) →
     let a = start₃ c .args in
@@ -154,9 +120,11 @@ zeros-here : (c : tie.After-put-zeros) →
 zeros-here c =
     let w = c .before .before .before .before in
     let a = start₃ c .args in
+    let m = length (a .bases .now) in
     c .put-zeros .ensures
-    ∙ both-written (length (a .bases .now)) (end₃ c) (a .page .now) (replicate (a .format .q) 0)
-    (first-here (w .before .before .before .before)) (second-here w)
+    ∙ ap (λ (l : List ℕ). overlay l (end₃ c) (replicate (a .format .q) 0))
+    (both-written m (digits (a .bases .now) (a .c .0)) (a .page .now) (length-digits (a .bases .now) (a .c .0))
+    (w .before .before .before .before .put-count .ensures) (w .put-count2 .ensures))
 
 returns : tie.Need-returns
 unfolding opened
@@ -185,15 +153,12 @@ pub fill-page-spec : {M : Type 1} → statement M
 fill-page-spec =
     tie.close
     (tie.spec
-    add-both
     count-steps-requires
-    slice-relend-prefix-write
-    slice-aggregate-write
-    write-requires
-    sub-write
-    part-write-start
-    part-write-end
-    write-requires-2
+    put-count-requires
+    sub-put-count
+    part-put-count-start
+    part-put-count-end
+    put-count-requires-2
     put-zeros-requires
     content-start-requires
     put-bytes-requires
