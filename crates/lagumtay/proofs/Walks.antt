@@ -1,7 +1,3 @@
--- What the proofs by hand share: structs behind references, entries of a context, and calls.
+-- What the proofs by hand share: what is lent, and the number of an ending.
 pub mod Lent
-pub mod Loads
-pub mod Stores
-pub mod Apart
-pub mod Facts
 pub mod Ending

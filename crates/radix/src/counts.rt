@@ -1,7 +1,9 @@
 // Counts and their digits, over the bases that are lent.
 ghost use mathlib.Core.Path.{_≡_};
+ghost use mathlib.Core.Bool.{_&&_};
 ghost use mathlib.Core.List.{_++_};
-ghost use Rattle.radix.specs.Digits.{valid};
+ghost use lib.Dec.{ltb};
+ghost use Rattle.radix.specs.Digits.{product, valid};
 ghost use Rattle.radix.specs.Answers.{goodBases, digitOf, into, digitsInto, valueOf, asCount};
 use crate::Count;
 use crate::CountRead;
@@ -25,6 +27,16 @@ pub fn valid(bases: &[u16], digits: &[u8]) -> bool
         return false;
     }
     mixed::below(bases, digits)
+}
+
+// Is a count below the product of good bases?
+pub fn fits(bases: &[u16], c: Count) -> bool
+    ensures { λ r. ⌜ r ≡ goodBases (now (bases .entry)) && ltb (c .0) (product (now (bases .entry))) ⌝ }
+{
+    if !mixed::good(bases) {
+        return false;
+    }
+    mixed::fits(bases, c.0)
 }
 
 // Digit k of a count, from the left, from 0.

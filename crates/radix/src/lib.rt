@@ -6,6 +6,7 @@ ghost use Rattle.radix.specs.Answers.{faultNumber};
 
 pub mod copies;
 pub mod counts;
+pub mod digits;
 mod mixed;
 pub mod versions;
 

@@ -53,7 +53,7 @@ pub(crate) fn weight(bases: &[u16]) -> u64
 }
 
 // Is x below the product of the bases? The product itself is never made.
-fn fits(bases: &[u16], x: u64) -> bool
+pub(crate) fn fits(bases: &[u16], x: u64) -> bool
     requires { ⌜ goodBases (now bases) ≡ true ⌝ }
     ensures { λ r. ⌜ r ≡ ltb x (product (now (bases .entry))) ⌝ }
 {

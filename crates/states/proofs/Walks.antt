@@ -1,27 +1,6 @@
--- The steps that the proofs by hand share: locals, loans, calls, loops.
-pub mod Flat
-pub mod Start
+-- What the proofs by hand share of readers' states.
 pub mod Handed
-pub mod Tests
-pub mod After
-pub mod Upto
 pub mod Made
-pub mod Locals
-pub mod Kept
-pub mod Both
-pub mod Call
-pub mod Values
-pub mod Again
 pub mod Points
-pub mod Elem
-pub mod Several
-pub mod Zeros
-pub mod Whole
 pub mod Digits
-pub mod Asks
-pub mod Said
-pub mod Shared
-pub mod Tokens
-pub mod Local
-pub mod Arms
 pub mod Empty

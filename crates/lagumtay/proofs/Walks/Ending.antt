@@ -29,8 +29,8 @@ use Rattle.protocol.proofs.Ending as T
 use Rattle.protocol.proofs.Ending.Laws as T′
 use Rattle.protocol.proofs.ending_number as g
 use Rattle.protocol.proofs.ending_number.Symbol.{name as #protocol·ending-number}
-use Rattle.lagumtay.proofs.Walks.Apart.{together}
-use Rattle.lagumtay.proofs.Walks.Facts.{calls-plain}
+use Rattle.walks.proofs.Apart.{together}
+use Rattle.walks.proofs.Facts.{calls-plain}
 
 abbrev R : RattleType
 R = T.the-row

@@ -17,8 +17,8 @@ use Rattle.protocol.proofs.Format.Laws as TF′
 use Rattle.protocol.proofs.Writer as TW
 use Rattle.protocol.proofs.Writer.Laws as TW′
 use Rattle.page.specs.Carry.{lent}
-use Rattle.states.proofs.Walks.Flat.{_&_}
-use Rattle.states.proofs.Walks.Locals.{Slot, has}
+use Rattle.walks.proofs.Flat.{_&_}
+use Rattle.walks.proofs.Locals.{Slot, has}
 
 -- the machine value of a lent list, and of a lent struct
 abbrev pub the : {X : Type 0} → RefT (List X) → Val

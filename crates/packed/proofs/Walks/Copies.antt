@@ -27,8 +27,8 @@ use denote.Array.{each, arrayVal, Array, array-typed, array-makes}
 use denote.ArrayMemory.{Single, array-apart, array-whole}
 use denote.Index.{row}
 use denote.Steps.{nothing, owned}
-use Rattle.states.proofs.Walks.Locals.{takes}
-use Rattle.states.proofs.Walks.Zeros.{lays-down}
+use Rattle.walks.proofs.Locals.{takes}
+use Rattle.walks.proofs.Zeros.{lays-down}
 
 module _ (R : RattleType) where
   module _ (x : R .Denot) (v : Val) (is : Is R x (v ∷ [])) where

@@ -8,13 +8,9 @@ use native.Mathlib.Omega.{arith}
 use lib.Dec.{eqb}
 use lib.ListN.{length, getD, set, replicate}
 use borrow.Author.Tests.{eqb-true, eq-eqb}
+pub use Rattle.radix.proofs.Cases.{by-cond}
 use Rattle.protocol.specs.Lists.{every, All, Any}
 use Rattle.protocol.specs.Load.{same}
-
--- go by cases on a test, keeping what it says
-pub by-cond : {A : Type 0} (P : A → Type 0) (t : Bool) {a b : A} → (t ≡ true → P a) → (t ≡ false → P b) → P (cond t a b)
-by-cond P true f g = f refl
-by-cond P false f g = g refl
 
 -- what two, three and four tests say that all hold
 pub both : (s t : Bool) → s && t ≡ true → (s ≡ true) × (t ≡ true)

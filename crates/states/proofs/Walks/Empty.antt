@@ -25,7 +25,7 @@ use denote.Triple.Clauses.{lasts}
 use Rattle.protocol.specs.declared.Reader.{Reader}
 use Rattle.protocol.proofs.Reader as T
 use Rattle.checks.specs.Valid.{idleReader}
-use Rattle.states.proofs.Walks.Values.{answer, answered}
+use Rattle.walks.proofs.Values.{answer, answered}
 use Rattle.states.proofs.idling.empty as g
 
 abbrev R : RattleType

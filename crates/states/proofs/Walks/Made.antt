@@ -13,8 +13,8 @@ use Rattle.protocol.proofs.Stage.Laws as TS′
 use Rattle.protocol.proofs.Reader as T
 use Rattle.protocol.proofs.Reader.Laws as T′
 use Rattle.checks.specs.Valid.{idleReader}
-use Rattle.states.proofs.Walks.Flat.{_&_}
-use Rattle.states.proofs.Walks.Zeros.{is-blank}
+use Rattle.walks.proofs.Flat.{_&_}
+use Rattle.walks.proofs.Zeros.{is-blank}
 
 abbrev pub vals : Reader → List Val
 vals = LL.vals T.the-type T′.the-laws

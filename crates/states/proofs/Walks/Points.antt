@@ -16,8 +16,8 @@ use types.Run.{look, init, stop, fld, load, lit, bin, assigns}
 use types.Part.{whole, sub, look-in}
 use denote.Slice.{sliceTy, sliceVal}
 use denote.Index.{place as lies-at, place-is}
-use Rattle.states.proofs.Walks.Locals.{takes, puts}
-use Rattle.states.proofs.Walks.Again.{found}
+use Rattle.walks.proofs.Locals.{takes, puts}
+use Rattle.walks.proofs.Again.{found}
 
 place-fits : (n k : ℕ) → n * 32 < 2 ^ 63 → k < n → k * 32 < 2 ^ 64
 place-fits n k room less = omega (arith, room, less)

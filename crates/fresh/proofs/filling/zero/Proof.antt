@@ -4,7 +4,7 @@ use mathlib.Core.List.{_++_}
 use Prim.Native.Nat.{_-_, _≤_}
 use native.Mathlib.Omega.{arith}
 use lib.ListN.{length, drop, replicate}
-use Rattle.fresh.proofs.Openings.Zeros.{zero-long, zero-more, zero-all}
+use Rattle.radix.proofs.Numbers.Zeros.{zero-long, zero-more, zero-all}
 use borrow.Author.Needs.{needs}
 use Rattle.fresh.proofs.filling.zero.Statement.{statement}
 use Rattle.fresh.proofs.filling.zero.Tie as tie

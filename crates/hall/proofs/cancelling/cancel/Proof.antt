@@ -63,22 +63,22 @@ use Rattle.hall.specs.Cancel.{endedLent, cancelLent, foundIn, readsIn}
 use Rattle.page.proofs.Calls.Starts.{start-is}
 use Rattle.hall.proofs.Cancels.{found-none, found-one, cancel-none, cancel-one}
 use Rattle.states.proofs.Walks.Handed.{Handed, handed}
-use Rattle.states.proofs.Walks.Start.{unit, walked-free}
+use Rattle.walks.proofs.Start.{unit, walked-free}
 use Rattle.states.proofs.Walks.Empty.{Empties, to-empty, goes-empty, empty-gives}
-use Rattle.states.proofs.Walks.Flat.{_&_}
-use Rattle.states.proofs.Walks.Tests.{holds-true, holds-false}
-use Rattle.states.proofs.Walks.Again.{lends-on}
-use Rattle.states.proofs.Walks.Elem.{elem, lends-elem, elem-back}
+use Rattle.walks.proofs.Flat.{_&_}
+use Rattle.walks.proofs.Tests.{holds-true, holds-false}
+use Rattle.walks.proofs.Again.{lends-on}
+use Rattle.walks.proofs.Elem.{elem, lends-elem, elem-back}
 use Rattle.states.proofs.Walks.Made.{vals}
 use Rattle.states.proofs.Walks.Points.{points}
-use Rattle.states.proofs.Walks.Whole.{Lie, Shut, anew, opens, shuts}
-use Rattle.states.proofs.Walks.Locals.{Slot, free, has, spread, locals, the, wide, enters, leaves, leaves-within}
-use Rattle.states.proofs.Walks.Locals.{arg}
-use Rattle.states.proofs.Walks.Call.{calls-with, answers}
-use Rattle.states.proofs.Walks.Asks.{made, lent, asked, told, asks, asks-plain}
-use Rattle.states.proofs.Walks.Said.{said, all-fit, all-go, Last}
-use Rattle.states.proofs.Walks.Shared.{reshares, reshared}
-use Rattle.states.proofs.Walks.Tokens.{binds, unbinds}
+use Rattle.walks.proofs.Whole.{Lie, Shut, anew, opens, shuts}
+use Rattle.walks.proofs.Locals.{Slot, free, has, spread, locals, the, wide, enters, leaves, leaves-within}
+use Rattle.walks.proofs.Locals.{arg}
+use Rattle.walks.proofs.Call.{calls-with, answers}
+use Rattle.walks.proofs.Asks.{made, lent, asked, told, asks, asks-plain}
+use Rattle.walks.proofs.Said.{said, all-fit, all-go, Last}
+use Rattle.walks.proofs.Shared.{reshares, reshared}
+use Rattle.walks.proofs.Tokens.{binds, unbinds}
 use Rattle.states.proofs.start as g
 use Rattle.states.proofs.start.Symbol as g-def
 use Rattle.states.proofs.start.Symbol.{name as #start}

@@ -52,17 +52,17 @@ use Rattle.fresh.specs.Opening.{openedLent, openLent, openedReaders}
 use Rattle.fresh.proofs.Opened as TO
 use Rattle.fresh.proofs.Opened.Laws as TO′
 use Rattle.fresh.proofs.Openings.Endings.{cleared, stayed as as-lent}
-use Rattle.states.proofs.Walks.Start.{unit, walked-free}
-use Rattle.states.proofs.Walks.Flat.{_&_}
-use Rattle.states.proofs.Walks.Tests.{holds-true, holds-false}
-use Rattle.states.proofs.Walks.Kept.{Own}
-use Rattle.states.proofs.Walks.Again.{lends-on}
-use Rattle.states.proofs.Walks.Locals.{Slot, free, has, spread, locals, the, wide, enters, leaves, leaves-within}
-use Rattle.states.proofs.Walks.Locals.{arg}
-use Rattle.states.proofs.Walks.Call.{answers}
-use Rattle.states.proofs.Walks.Asks.{made, lent, asked, told, asks-plain, lends}
-use Rattle.states.proofs.Walks.Said.{said, all-fit, all-go, Last, unchanged}
-use Rattle.states.proofs.Walks.Tokens.{binds, unbinds}
+use Rattle.walks.proofs.Start.{unit, walked-free}
+use Rattle.walks.proofs.Flat.{_&_}
+use Rattle.walks.proofs.Tests.{holds-true, holds-false}
+use Rattle.walks.proofs.Kept.{Own}
+use Rattle.walks.proofs.Again.{lends-on}
+use Rattle.walks.proofs.Locals.{Slot, free, has, spread, locals, the, wide, enters, leaves, leaves-within}
+use Rattle.walks.proofs.Locals.{arg}
+use Rattle.walks.proofs.Call.{answers}
+use Rattle.walks.proofs.Asks.{made, lent, asked, told, asks-plain, lends}
+use Rattle.walks.proofs.Said.{said, all-fit, all-go, Last, unchanged}
+use Rattle.walks.proofs.Tokens.{binds, unbinds}
 use Rattle.fresh.proofs.open_page as g
 use Rattle.fresh.proofs.open_page.Symbol as g-def
 use Rattle.fresh.proofs.open_page.Symbol.{name as #open-page}

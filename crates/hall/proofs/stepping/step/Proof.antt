@@ -68,18 +68,18 @@ use Rattle.page.proofs.Stepped as TS
 use Rattle.page.proofs.Stepped.Laws as TS′
 use Rattle.page.proofs.Calls.Steps.{step-is, step-carries}
 use Rattle.states.proofs.Walks.Handed.{Handed, handed}
-use Rattle.states.proofs.Walks.Start.{unit, walked-free}
-use Rattle.states.proofs.Walks.Both.{says-both}
-use Rattle.states.proofs.Walks.Flat.{_&_}
-use Rattle.states.proofs.Walks.Again.{lends-on, borrows}
-use Rattle.states.proofs.Walks.Zeros.{zeros}
-use Rattle.states.proofs.Walks.Whole.{anew, relends, comes}
-use Rattle.states.proofs.Walks.Locals.{Slot, free, has, spread, locals, the, wide, enters, leaves, arg, takes, puts}
-use Rattle.states.proofs.Walks.Asks.{made, lent, asked, told, first-told, asks-plain, lends}
-use Rattle.states.proofs.Walks.Said.{said, all-fit, all-go, Last}
-use Rattle.states.proofs.Walks.Shared.{lends-shr, shr-back}
-use Rattle.states.proofs.Walks.Tokens.{binds, unbinds}
-use Rattle.states.proofs.Walks.Local.{Bytes, spelt, lays, picks, apart, whole}
+use Rattle.walks.proofs.Start.{unit, walked-free}
+use Rattle.walks.proofs.Both.{says-both}
+use Rattle.walks.proofs.Flat.{_&_}
+use Rattle.walks.proofs.Again.{lends-on, borrows}
+use Rattle.walks.proofs.Zeros.{zeros}
+use Rattle.walks.proofs.Whole.{anew, relends, comes}
+use Rattle.walks.proofs.Locals.{Slot, free, has, spread, locals, the, wide, enters, leaves, arg, takes, puts}
+use Rattle.walks.proofs.Asks.{made, lent, asked, told, first-told, asks-plain, lends}
+use Rattle.walks.proofs.Said.{said, all-fit, all-go, Last}
+use Rattle.walks.proofs.Shared.{lends-shr, shr-back}
+use Rattle.walks.proofs.Tokens.{binds, unbinds}
+use Rattle.walks.proofs.Local.{Bytes, spelt, lays, picks, apart, whole}
 use Rattle.page.proofs.Walks.Commands.{command-range}
 use Rattle.page.proofs.run as h
 use Rattle.page.proofs.run.Symbol as h-def

@@ -45,16 +45,16 @@ use Rattle.protocol.proofs.Writer as TW
 use Rattle.protocol.proofs.Writer.Laws as TW′
 use Rattle.page.specs.Carry.{lent}
 use Rattle.hall.specs.Cancel.{endedLent, cancelLent}
-use Rattle.states.proofs.Walks.Start.{unit, walked-free}
-use Rattle.states.proofs.Walks.Flat.{_&_}
-use Rattle.states.proofs.Walks.Locals.{Slot, has, spread, wide, enters, leaves, arg}
-use Rattle.states.proofs.Walks.Again.{lends-on}
+use Rattle.walks.proofs.Start.{unit, walked-free}
+use Rattle.walks.proofs.Flat.{_&_}
+use Rattle.walks.proofs.Locals.{Slot, has, spread, wide, enters, leaves, arg}
+use Rattle.walks.proofs.Again.{lends-on}
 use Rattle.lagumtay.proofs.Answers.Cancels.{cancelled}
 use Rattle.lagumtay.proofs.Walks.Lent.{the, lent-on, in-order, format, page, writer, readers, buffers, form}
 use Rattle.lagumtay.proofs.Walks.Lent.{memory, vals, params, held, loaded, handed, handed-vals}
-use Rattle.lagumtay.proofs.Walks.Loads.{loads-shr}
-use Rattle.lagumtay.proofs.Walks.Apart.{tokens, apart, together, as-long}
-use Rattle.lagumtay.proofs.Walks.Facts.{calls-plain}
+use Rattle.walks.proofs.Loads.{loads-shr}
+use Rattle.walks.proofs.Apart.{tokens, apart, together, as-long}
+use Rattle.walks.proofs.Facts.{calls-plain}
 use Rattle.lagumtay.proofs.Walks.Ending.{Numbers, numbers, typed-ending, typed-number}
 use Rattle.hall.proofs.cancel as g
 use Rattle.hall.proofs.cancel.Symbol as cancel-def

@@ -54,18 +54,18 @@ use Rattle.fresh.specs.declared.Opened.{Opened}
 use Rattle.fresh.proofs.Opened as TO
 use Rattle.fresh.proofs.Opened.Laws as TO′
 use Rattle.fresh.specs.Opening.{openedLent, openLent}
-use Rattle.states.proofs.Walks.Start.{unit, walked-free}
-use Rattle.states.proofs.Walks.Flat.{_&_}
-use Rattle.states.proofs.Walks.Locals.{Slot, has, spread, wide, enters, leaves, arg}
-use Rattle.states.proofs.Walks.Again.{lends-on}
+use Rattle.walks.proofs.Start.{unit, walked-free}
+use Rattle.walks.proofs.Flat.{_&_}
+use Rattle.walks.proofs.Locals.{Slot, has, spread, wide, enters, leaves, arg}
+use Rattle.walks.proofs.Again.{lends-on}
 use Rattle.lagumtay.proofs.Answers.Opens.{opened-left}
 use Rattle.lagumtay.proofs.Walks.Lent.{the, in-order, format, writer, form, memory, vals, params, held}
 use Rattle.lagumtay.proofs.Walks.Lent.{loaded, all-lent-on, handed, handed-vals, last-readers, last-page}
 use Rattle.lagumtay.proofs.Walks.Lent.{last-buffers, memory-after}
-use Rattle.lagumtay.proofs.Walks.Loads.{loads-shr, loads-mut}
-use Rattle.lagumtay.proofs.Walks.Stores.{Mut, stores-mut}
-use Rattle.lagumtay.proofs.Walks.Apart.{tokens, apart, together, as-long}
-use Rattle.lagumtay.proofs.Walks.Facts.{calls-plain}
+use Rattle.walks.proofs.Loads.{loads-shr, loads-mut}
+use Rattle.walks.proofs.Stores.{Mut, stores-mut}
+use Rattle.walks.proofs.Apart.{tokens, apart, together, as-long}
+use Rattle.walks.proofs.Facts.{calls-plain}
 use Rattle.lagumtay.proofs.Walks.Ending.{Numbers, numbers, typed-ending, typed-number}
 use Rattle.hall.proofs.open as g
 use Rattle.hall.proofs.open.Symbol as open-def

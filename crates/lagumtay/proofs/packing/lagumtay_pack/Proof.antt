@@ -38,14 +38,14 @@ use Rattle.protocol.specs.declared.Ending.{Ending}
 use Rattle.protocol.specs.declared.Reader.{Reader}
 use Rattle.protocol.proofs.Reader as TR
 use Rattle.packed.specs.States.{packedLent, packAll}
-use Rattle.states.proofs.Walks.Start.{unit, walked-free}
-use Rattle.states.proofs.Walks.Flat.{_&_}
-use Rattle.states.proofs.Walks.Locals.{Slot, has, spread, wide, enters, leaves, arg}
-use Rattle.states.proofs.Walks.Again.{lends-on}
+use Rattle.walks.proofs.Start.{unit, walked-free}
+use Rattle.walks.proofs.Flat.{_&_}
+use Rattle.walks.proofs.Locals.{Slot, has, spread, wide, enters, leaves, arg}
+use Rattle.walks.proofs.Again.{lends-on}
 use Rattle.lagumtay.proofs.Answers.Packs.{packed}
 use Rattle.lagumtay.proofs.Walks.Lent.{the, lent-on}
-use Rattle.lagumtay.proofs.Walks.Apart.{tokens, apart, together, as-long}
-use Rattle.lagumtay.proofs.Walks.Facts.{calls-plain}
+use Rattle.walks.proofs.Apart.{tokens, apart, together, as-long}
+use Rattle.walks.proofs.Facts.{calls-plain}
 use Rattle.lagumtay.proofs.Walks.Ending.{Numbers, numbers, typed-ending, typed-number}
 use Rattle.packed.proofs.pack as g
 use Rattle.packed.proofs.pack.Symbol as pack-def

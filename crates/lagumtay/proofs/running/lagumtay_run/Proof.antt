@@ -48,11 +48,11 @@ use Rattle.page.specs.declared.Ran.{Ran}
 use Rattle.page.proofs.Ran as TR
 use Rattle.page.proofs.Ran.Laws as TR′
 use Rattle.page.specs.Calls.{ranLent, runLent, Carries}
-use Rattle.states.proofs.Walks.Start.{unit, walked-free}
-use Rattle.states.proofs.Walks.Both.{says-both}
-use Rattle.states.proofs.Walks.Flat.{_&_}
-use Rattle.states.proofs.Walks.Locals.{Slot, has, spread, wide, enters, leaves, arg}
-use Rattle.states.proofs.Walks.Again.{lends-on}
+use Rattle.walks.proofs.Start.{unit, walked-free}
+use Rattle.walks.proofs.Both.{says-both}
+use Rattle.walks.proofs.Flat.{_&_}
+use Rattle.walks.proofs.Locals.{Slot, has, spread, wide, enters, leaves, arg}
+use Rattle.walks.proofs.Again.{lends-on}
 use Rattle.page.proofs.run as g
 use Rattle.page.proofs.run.Symbol as run-def
 use Rattle.page.proofs.run.Symbol.{name as #page·run}
@@ -68,10 +68,10 @@ use Rattle.lagumtay.proofs.Answers.Runs.{returned-run}
 use Rattle.lagumtay.proofs.Walks.Lent.{the, spot, in-order, format, writer, form, memory, vals, params, held}
 use Rattle.lagumtay.proofs.Walks.Lent.{loaded, lent-on, all-lent-on, handed, handed-vals, last-readers, last-page}
 use Rattle.lagumtay.proofs.Walks.Lent.{last-buffers, memory-after}
-use Rattle.lagumtay.proofs.Walks.Loads.{loads-shr, loads-mut}
-use Rattle.lagumtay.proofs.Walks.Stores.{Mut, stores-mut}
-use Rattle.lagumtay.proofs.Walks.Apart.{tokens, apart, together, as-long}
-use Rattle.lagumtay.proofs.Walks.Facts.{both, calls-plain}
+use Rattle.walks.proofs.Loads.{loads-shr, loads-mut}
+use Rattle.walks.proofs.Stores.{Mut, stores-mut}
+use Rattle.walks.proofs.Apart.{tokens, apart, together, as-long}
+use Rattle.walks.proofs.Facts.{both, calls-plain}
 use Rattle.lagumtay.proofs.running.returning as h
 use Rattle.lagumtay.proofs.running.returning.Symbol as returning-def
 use Rattle.lagumtay.proofs.running.returning.Symbol.{name as #lagumtay·returning}

@@ -54,11 +54,11 @@ use Rattle.page.specs.declared.Stepped.{Stepped}
 use Rattle.page.proofs.Stepped as TS
 use Rattle.page.proofs.Stepped.Laws as TS′
 use Rattle.page.specs.Calls.{steppedLent, stepLent, CarriesStep}
-use Rattle.states.proofs.Walks.Start.{unit, walked-free}
-use Rattle.states.proofs.Walks.Both.{says-both}
-use Rattle.states.proofs.Walks.Flat.{_&_}
-use Rattle.states.proofs.Walks.Locals.{Slot, has, spread, wide, enters, leaves, arg}
-use Rattle.states.proofs.Walks.Again.{lends-on}
+use Rattle.walks.proofs.Start.{unit, walked-free}
+use Rattle.walks.proofs.Both.{says-both}
+use Rattle.walks.proofs.Flat.{_&_}
+use Rattle.walks.proofs.Locals.{Slot, has, spread, wide, enters, leaves, arg}
+use Rattle.walks.proofs.Again.{lends-on}
 use Rattle.hall.proofs.step as g
 use Rattle.hall.proofs.step.Symbol as step-def
 use Rattle.hall.proofs.step.Symbol.{name as #hall·step}
@@ -77,10 +77,10 @@ use Rattle.lagumtay.proofs.Answers.Steps.{returned-step}
 use Rattle.lagumtay.proofs.Walks.Lent.{the, spot, in-order, format, writer, form, memory, vals, params, held}
 use Rattle.lagumtay.proofs.Walks.Lent.{loaded, all-lent-on, handed, handed-vals, last-readers, last-page}
 use Rattle.lagumtay.proofs.Walks.Lent.{last-buffers}
-use Rattle.lagumtay.proofs.Walks.Loads.{loads-shr, loads-mut}
-use Rattle.lagumtay.proofs.Walks.Stores.{Mut, stores-mut}
-use Rattle.lagumtay.proofs.Walks.Apart.{tokens, apart, together, as-long}
-use Rattle.lagumtay.proofs.Walks.Facts.{both, calls-plain}
+use Rattle.walks.proofs.Loads.{loads-shr, loads-mut}
+use Rattle.walks.proofs.Stores.{Mut, stores-mut}
+use Rattle.walks.proofs.Apart.{tokens, apart, together, as-long}
+use Rattle.walks.proofs.Facts.{both, calls-plain}
 use Rattle.lagumtay.proofs.stepping.command_of as c
 use Rattle.lagumtay.proofs.stepping.command_of.Symbol as command-def
 use Rattle.lagumtay.proofs.stepping.command_of.Symbol.{name as #lagumtay·command-of}

@@ -56,19 +56,19 @@ use Rattle.codec.proofs.unpack.Met as g-thm
 use Rattle.page.specs.Carry.{idleReader}
 use Rattle.packed.proofs.Packings.Packs.{unpackTo, none-unpacked, unpackTo-length, unpacks-on, unpacks-all}
 use Rattle.packed.proofs.Packings.Packs.{states, ended, states-fit, states-most}
-use Rattle.states.proofs.Walks.Start.{unit, walked-free}
-use Rattle.states.proofs.Walks.After.{after}
-use Rattle.states.proofs.Walks.Flat.{_&_}
-use Rattle.states.proofs.Walks.Upto as count
+use Rattle.walks.proofs.Start.{unit, walked-free}
+use Rattle.walks.proofs.After.{after}
+use Rattle.walks.proofs.Flat.{_&_}
+use Rattle.walks.proofs.Upto as count
 use Rattle.states.proofs.Walks.Points.{points}
 use Rattle.states.proofs.Walks.Made.{vals}
-use Rattle.states.proofs.Walks.Locals.{Slot, free, has, spread, locals, the, wide, enters, leaves, arg}
-use Rattle.states.proofs.Walks.Call.{answers}
-use Rattle.states.proofs.Walks.Asks.{made, lent, asked, told, asks, asks-plain}
-use Rattle.states.proofs.Walks.Said.{said, all-fit, all-go, Last}
-use Rattle.states.proofs.Walks.Shared.{Shr, doubles}
-use Rattle.states.proofs.Walks.Tokens.{binds, unbinds}
-use Rattle.states.proofs.Walks.Whole.{Lie, Shut, opens, shuts}
+use Rattle.walks.proofs.Locals.{Slot, free, has, spread, locals, the, wide, enters, leaves, arg}
+use Rattle.walks.proofs.Call.{answers}
+use Rattle.walks.proofs.Asks.{made, lent, asked, told, asks, asks-plain}
+use Rattle.walks.proofs.Said.{said, all-fit, all-go, Last}
+use Rattle.walks.proofs.Shared.{Shr, doubles}
+use Rattle.walks.proofs.Tokens.{binds, unbinds}
+use Rattle.walks.proofs.Whole.{Lie, Shut, opens, shuts}
 use Rattle.packed.proofs.packing.states as h
 use Rattle.packed.proofs.packing.states.Symbol as h-def
 use Rattle.packed.proofs.packing.states.Symbol.{name as #states}

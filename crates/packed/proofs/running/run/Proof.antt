@@ -63,17 +63,17 @@ use Rattle.packed.proofs.Packings.Packs.{unpacked-length}
 use Rattle.packed.proofs.Kept.States.{states-most, unpacks}
 use Rattle.packed.proofs.Kept.Runs.{run-kept}
 use Rattle.states.proofs.Walks.Handed.{Handed, handed}
-use Rattle.states.proofs.Walks.Start.{unit, walked-free}
-use Rattle.states.proofs.Walks.Flat.{_&_}
-use Rattle.states.proofs.Walks.Kept.{Own}
-use Rattle.states.proofs.Walks.Again.{lends-on, borrows}
-use Rattle.states.proofs.Walks.Whole.{Lie, anew, relends, comes}
-use Rattle.states.proofs.Walks.Locals.{Slot, free, has, out, spread, locals, the, wide, enters, leaves, arg}
-use Rattle.states.proofs.Walks.Call.{answers}
-use Rattle.states.proofs.Walks.Asks.{made, lent, asked, told, first-told, asks-plain, lends}
-use Rattle.states.proofs.Walks.Said.{said, all-fit, all-go}
-use Rattle.states.proofs.Walks.Shared.{lends-shr, shr-back, reshares, reshared}
-use Rattle.states.proofs.Walks.Tokens.{binds, unbinds}
+use Rattle.walks.proofs.Start.{unit, walked-free}
+use Rattle.walks.proofs.Flat.{_&_}
+use Rattle.walks.proofs.Kept.{Own}
+use Rattle.walks.proofs.Again.{lends-on, borrows}
+use Rattle.walks.proofs.Whole.{Lie, anew, relends, comes}
+use Rattle.walks.proofs.Locals.{Slot, free, has, out, spread, locals, the, wide, enters, leaves, arg}
+use Rattle.walks.proofs.Call.{answers}
+use Rattle.walks.proofs.Asks.{made, lent, asked, told, first-told, asks-plain, lends}
+use Rattle.walks.proofs.Said.{said, all-fit, all-go}
+use Rattle.walks.proofs.Shared.{lends-shr, shr-back, reshares, reshared}
+use Rattle.walks.proofs.Tokens.{binds, unbinds}
 use Rattle.packed.proofs.Walks.Copies.{copies, lays-row}
 use Rattle.packed.proofs.Walks.Prefix.{after, cuts, joins}
 use Rattle.packed.proofs.keeping.states_of as h

@@ -21,7 +21,7 @@ use Rattle.protocol.proofs.Writer.Laws as TW′
 use Rattle.page.specs.declared.pen.Pen.{Pen}
 use Rattle.page.proofs.pen.Pen as TP
 use Rattle.page.proofs.pen.dry as g
-use Rattle.states.proofs.Walks.Values.{asks-one, tells}
+use Rattle.walks.proofs.Values.{asks-one, tells}
 
 -- a pen whose digits are not known
 abbrev pub dried : Writer → Pen

@@ -25,7 +25,7 @@ use Rattle.page.proofs.Ran as TR
 use Rattle.page.proofs.looping.Standing as TS
 use Rattle.page.proofs.looping.Standing.Laws as TS′
 use Rattle.page.proofs.looping.ran_of as g
-use Rattle.states.proofs.Walks.Values.{tells}
+use Rattle.walks.proofs.Values.{tells}
 
 module _ {M : Type 1} (𝓤 : URA M) (H : Heap 𝓤) (A : Atoms 𝓤) (mem : Memory → SProp 𝓤) (run : Routine → Fun 𝓤) where
   abbrev pub Rans : Contract 𝓤

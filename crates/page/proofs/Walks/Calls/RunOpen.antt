@@ -39,10 +39,10 @@ use Rattle.protocol.proofs.Reader as T
 use Rattle.page.specs.declared.looping.Standing.{Standing}
 use Rattle.page.proofs.looping.Standing as TS
 use Rattle.page.proofs.looping.Standing.Laws as TS′
-use Rattle.states.proofs.Walks.Flat.{_&_}
-use Rattle.states.proofs.Walks.Kept.{Own}
-use Rattle.states.proofs.Walks.Whole.{Lie, Shut, anew, Keep, opens, shuts, relends, comes}
-use Rattle.states.proofs.Walks.Tokens.{binds, unbinds}
+use Rattle.walks.proofs.Flat.{_&_}
+use Rattle.walks.proofs.Kept.{Own}
+use Rattle.walks.proofs.Whole.{Lie, Shut, anew, Keep, opens, shuts, relends, comes}
+use Rattle.walks.proofs.Tokens.{binds, unbinds}
 use Rattle.page.proofs.Walks.Calls.TurnRest as turn
 use Rattle.page.proofs.Walks.Calls.RunRest.{Lent, Lasts, page, buffers, records, commands, log, AsLong, Rest, Last}
 

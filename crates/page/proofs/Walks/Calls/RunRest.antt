@@ -34,8 +34,8 @@ use Rattle.protocol.proofs.Format as TF
 use Rattle.protocol.proofs.Format.Laws as TF′
 use Rattle.protocol.proofs.Writer as TW
 use Rattle.protocol.proofs.Writer.Laws as TW′
-use Rattle.states.proofs.Walks.Flat.{_&_}
-use Rattle.states.proofs.Walks.Locals.{the, wide}
+use Rattle.walks.proofs.Flat.{_&_}
+use Rattle.walks.proofs.Locals.{the, wide}
 
 abbrev pub Lent : Type 0
 Lent =

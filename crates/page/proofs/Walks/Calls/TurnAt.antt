@@ -35,9 +35,9 @@ use Rattle.page.specs.Carry.{readerAt}
 use Rattle.page.specs.Loop.{readsOnIn, TurnReady, placeTurn, turnAt}
 use Rattle.page.proofs.looping.Standing as T
 use Rattle.page.proofs.running.turn_at as g
-use Rattle.states.proofs.Walks.Flat.{_&_}
-use Rattle.states.proofs.Walks.Kept.{Own}
-use Rattle.states.proofs.Walks.Values.{answer, answered}
+use Rattle.walks.proofs.Flat.{_&_}
+use Rattle.walks.proofs.Kept.{Own}
+use Rattle.walks.proofs.Values.{answer, answered}
 use Rattle.page.proofs.Walks.Calls.TurnRest.{Lent, Lasts, spelt, form, page, buffers, log, asked, from, Rest, AsLong}
 use Rattle.page.proofs.Walks.Calls.TurnRest.{Last, rest-ends, Tokens}
 

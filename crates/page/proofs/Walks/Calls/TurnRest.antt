@@ -36,9 +36,9 @@ use Rattle.protocol.proofs.Format.Laws as TF′
 use Rattle.page.specs.declared.looping.Standing.{Standing}
 use Rattle.page.proofs.looping.Standing as TS
 use Rattle.page.proofs.looping.Standing.Laws as TS′
-use Rattle.states.proofs.Walks.Flat.{_&_}
-use Rattle.states.proofs.Walks.Kept.{Own}
-use Rattle.states.proofs.Walks.Locals.{the, wide}
+use Rattle.walks.proofs.Flat.{_&_}
+use Rattle.walks.proofs.Kept.{Own}
+use Rattle.walks.proofs.Locals.{the, wide}
 
 abbrev pub Lent : Type 0
 Lent =

@@ -26,7 +26,7 @@ use Rattle.codec.proofs.Decoded as TD
 use Rattle.codec.proofs.Decoded.Laws as TD′
 use Rattle.page.specs.Loop.{whoseIn}
 use Rattle.page.proofs.turning.whose as g
-use Rattle.states.proofs.Walks.Values.{tells}
+use Rattle.walks.proofs.Values.{tells}
 
 module _ {M : Type 1} (𝓤 : URA M) (H : Heap 𝓤) (A : Atoms 𝓤) (mem : Memory → SProp 𝓤) (run : Routine → Fun 𝓤) where
   abbrev pub Whoses : Contract 𝓤

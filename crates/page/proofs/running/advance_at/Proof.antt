@@ -58,21 +58,21 @@ use Rattle.page.specs.Reads.{ReadReady}
 use Rattle.page.specs.Carry.{idleReader, readerAt, within}
 use Rattle.page.specs.Loop.{NoAdvance, Advanced}
 use Rattle.page.proofs.Readers.Ways.{held-steps}
-use Rattle.states.proofs.Walks.Start.{unit, walked-asking}
-use Rattle.states.proofs.Walks.Flat.{_&_}
-use Rattle.states.proofs.Walks.Tests.{holds-true, holds-false, holds-not-not}
+use Rattle.walks.proofs.Start.{unit, walked-asking}
+use Rattle.walks.proofs.Flat.{_&_}
+use Rattle.walks.proofs.Tests.{holds-true, holds-false, holds-not-not}
 use Rattle.states.proofs.Walks.Digits.{D, spelt as spelt-digits, same, lends-digits, digits-back}
 use Rattle.states.proofs.Walks.Digits.{lent as lent-digits}
-use Rattle.states.proofs.Walks.Locals.{free, has, spread, locals, the, wide, enters, leaves, leaves-within, arg}
-use Rattle.states.proofs.Walks.Again.{lends-on}
+use Rattle.walks.proofs.Locals.{free, has, spread, locals, the, wide, enters, leaves, leaves-within, arg}
+use Rattle.walks.proofs.Again.{lends-on}
 use Rattle.states.proofs.Walks.Points.{points}
-use Rattle.states.proofs.Walks.Call.{answers}
-use Rattle.states.proofs.Walks.Asks.{made, lent, asked-if, told, asks, lends}
-use Rattle.states.proofs.Walks.Kept.{Own}
-use Rattle.states.proofs.Walks.Said.{said, all-fit, all-go, Last, unchanged}
-use Rattle.states.proofs.Walks.Shared.{Shr, doubles}
-use Rattle.states.proofs.Walks.Tokens.{binds, unbinds}
-use Rattle.states.proofs.Walks.Whole.{Lie, Shut, opens, shuts}
+use Rattle.walks.proofs.Call.{answers}
+use Rattle.walks.proofs.Asks.{made, lent, asked-if, told, asks, lends}
+use Rattle.walks.proofs.Kept.{Own}
+use Rattle.walks.proofs.Said.{said, all-fit, all-go, Last, unchanged}
+use Rattle.walks.proofs.Shared.{Shr, doubles}
+use Rattle.walks.proofs.Tokens.{binds, unbinds}
+use Rattle.walks.proofs.Whole.{Lie, Shut, opens, shuts}
 use Rattle.page.proofs.reading.advances as g
 use Rattle.page.proofs.reading.advances.Symbol as g-def
 use Rattle.page.proofs.reading.advances.Symbol.{name as #advances}

@@ -62,19 +62,19 @@ use Rattle.page.proofs.Calls.Starts.{start-is}
 use Rattle.page.proofs.Calls.Begun.{begins, run-refused}
 use Rattle.page.proofs.Calls.Carries.{carries}
 use Rattle.states.proofs.Walks.Handed.{Handed, handed}
-use Rattle.states.proofs.Walks.Start.{unit, walked-free}
-use Rattle.states.proofs.Walks.Both.{says-both}
-use Rattle.states.proofs.Walks.Flat.{_&_}
-use Rattle.states.proofs.Walks.Tests.{holds-true, holds-false}
-use Rattle.states.proofs.Walks.Again.{lends-on}
-use Rattle.states.proofs.Walks.Whole.{anew}
-use Rattle.states.proofs.Walks.Locals.{Slot, free, has, spread, locals, the, wide, enters, leaves, leaves-within}
-use Rattle.states.proofs.Walks.Locals.{arg}
-use Rattle.states.proofs.Walks.Call.{answers}
-use Rattle.states.proofs.Walks.Asks.{made, lent, Hows, supply, asked, asked-if, told, asks, asks-plain, lends}
-use Rattle.states.proofs.Walks.Said.{said, all-fit, all-go, unchanged}
-use Rattle.states.proofs.Walks.Shared.{doubles, reshares, reshared}
-use Rattle.states.proofs.Walks.Tokens.{binds, unbinds}
+use Rattle.walks.proofs.Start.{unit, walked-free}
+use Rattle.walks.proofs.Both.{says-both}
+use Rattle.walks.proofs.Flat.{_&_}
+use Rattle.walks.proofs.Tests.{holds-true, holds-false}
+use Rattle.walks.proofs.Again.{lends-on}
+use Rattle.walks.proofs.Whole.{anew}
+use Rattle.walks.proofs.Locals.{Slot, free, has, spread, locals, the, wide, enters, leaves, leaves-within}
+use Rattle.walks.proofs.Locals.{arg}
+use Rattle.walks.proofs.Call.{answers}
+use Rattle.walks.proofs.Asks.{made, lent, Hows, supply, asked, asked-if, told, asks, asks-plain, lends}
+use Rattle.walks.proofs.Said.{said, all-fit, all-go, unchanged}
+use Rattle.walks.proofs.Shared.{doubles, reshares, reshared}
+use Rattle.walks.proofs.Tokens.{binds, unbinds}
 use Rattle.states.proofs.start as g
 use Rattle.states.proofs.start.Symbol as g-def
 use Rattle.states.proofs.start.Symbol.{name as #start}

@@ -57,12 +57,12 @@ use Rattle.page.proofs.pen.Pen as TP
 use Rattle.page.proofs.pen.Pen.Laws as TP′
 use Rattle.page.proofs.Loop.Going.{going-first}
 use Rattle.page.proofs.Loop.Ends.{going-ends}
-use Rattle.states.proofs.Walks.Start.{unit, walked-asking}
-use Rattle.states.proofs.Walks.Kept.{Own}
-use Rattle.states.proofs.Walks.Flat.{_&_}
-use Rattle.states.proofs.Walks.Tests.{holds-false}
-use Rattle.states.proofs.Walks.Locals.{free, has, locals, wide, enters, leaves, arg}
-use Rattle.states.proofs.Walks.Call.{calls-with, answers}
+use Rattle.walks.proofs.Start.{unit, walked-asking}
+use Rattle.walks.proofs.Kept.{Own}
+use Rattle.walks.proofs.Flat.{_&_}
+use Rattle.walks.proofs.Tests.{holds-false}
+use Rattle.walks.proofs.Locals.{free, has, locals, wide, enters, leaves, arg}
+use Rattle.walks.proofs.Call.{calls-with, answers}
 use Rattle.page.proofs.Walks.Calls.RunRest as rest
 use Rattle.page.proofs.Walks.Calls.RunRest.{page, writer, buffers, log, fits, AsLong, Rest, Last, Had, rest-had}
 use Rattle.page.proofs.Walks.Calls.RunRest.{spells, tells, Tokens}

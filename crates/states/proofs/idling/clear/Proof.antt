@@ -44,14 +44,14 @@ use Rattle.checks.specs.Valid.{idleReader}
 use Rattle.protocol.specs.declared.Reader.{Reader}
 use Rattle.protocol.proofs.Reader as T
 use Rattle.states.proofs.Lists.Cleared.{clearTo, clear-length, clear-next, clear-all}
-use Rattle.states.proofs.Walks.Start.{unit, walked-free}
-use Rattle.states.proofs.Walks.Flat.{_&_}
-use Rattle.states.proofs.Walks.After.{after}
-use Rattle.states.proofs.Walks.Locals.{Slot, free, has, spread, locals, the, wide, enters, leaves, arg}
-use Rattle.states.proofs.Walks.Upto as count
+use Rattle.walks.proofs.Start.{unit, walked-free}
+use Rattle.walks.proofs.Flat.{_&_}
+use Rattle.walks.proofs.After.{after}
+use Rattle.walks.proofs.Locals.{Slot, free, has, spread, locals, the, wide, enters, leaves, arg}
+use Rattle.walks.proofs.Upto as count
 use Rattle.states.proofs.Walks.Points.{points}
-use Rattle.states.proofs.Walks.Call.{calls-with, answers}
-use Rattle.states.proofs.Walks.Elem.{elem, lends-elem, elem-back}
+use Rattle.walks.proofs.Call.{calls-with, answers}
+use Rattle.walks.proofs.Elem.{elem, lends-elem, elem-back}
 use Rattle.states.proofs.Walks.Empty.{Empties, to-empty, goes-empty, empty-gives}
 use Rattle.states.proofs.idling.empty.Symbol as g-def
 use Rattle.states.proofs.idling.empty.Symbol.{name as #empty}

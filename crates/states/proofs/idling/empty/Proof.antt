@@ -37,9 +37,9 @@ use Rattle.checks.specs.Valid.{idleReader}
 use Rattle.protocol.specs.declared.Reader.{Reader}
 use Rattle.protocol.proofs.Reader as T
 use Rattle.protocol.proofs.Reader.Laws as T′
-use Rattle.states.proofs.Walks.Start.{unit, walked-free}
-use Rattle.states.proofs.Walks.Flat.{_&_}
-use Rattle.states.proofs.Walks.Locals.{has, spread, enters, leaves, arg}
+use Rattle.walks.proofs.Start.{unit, walked-free}
+use Rattle.walks.proofs.Flat.{_&_}
+use Rattle.walks.proofs.Locals.{has, spread, enters, leaves, arg}
 use Rattle.states.proofs.Walks.Made.{vals, made}
 use Rattle.states.proofs.idling.empty.Key.{name as #empty}
 use Rattle.states.proofs.idling.empty as f

@@ -59,19 +59,19 @@ use Rattle.checks.proofs.reader_valid.Symbol.{name as #reader-valid}
 use Rattle.checks.proofs.reader_valid.Met as g-thm
 use Rattle.checks.specs.Valid.{idleReader}
 use Rattle.states.proofs.Lists.Every.{every-next, every-end}
-use Rattle.states.proofs.Walks.Start.{unit, walked-free}
-use Rattle.states.proofs.Walks.After.{after}
-use Rattle.states.proofs.Walks.Flat.{_&_}
-use Rattle.states.proofs.Walks.Tests.{holds-false, holds-not-not}
-use Rattle.states.proofs.Walks.Upto as count
+use Rattle.walks.proofs.Start.{unit, walked-free}
+use Rattle.walks.proofs.After.{after}
+use Rattle.walks.proofs.Flat.{_&_}
+use Rattle.walks.proofs.Tests.{holds-false, holds-not-not}
+use Rattle.walks.proofs.Upto as count
 use Rattle.states.proofs.Walks.Points.{points}
 use Rattle.states.proofs.Walks.Made.{vals}
-use Rattle.states.proofs.Walks.Locals.{Slot, free, has, spread, locals, the, wide, enters, leaves}
-use Rattle.states.proofs.Walks.Locals.{leaves-within, arg}
-use Rattle.states.proofs.Walks.Call.{answers}
-use Rattle.states.proofs.Walks.Asks.{made, lent, asked, told, asks}
-use Rattle.states.proofs.Walks.Said.{said, all-fit, all-go}
-use Rattle.states.proofs.Walks.Shared.{Shr, doubles}
+use Rattle.walks.proofs.Locals.{Slot, free, has, spread, locals, the, wide, enters, leaves}
+use Rattle.walks.proofs.Locals.{leaves-within, arg}
+use Rattle.walks.proofs.Call.{answers}
+use Rattle.walks.proofs.Asks.{made, lent, asked, told, asks}
+use Rattle.walks.proofs.Said.{said, all-fit, all-go}
+use Rattle.walks.proofs.Shared.{Shr, doubles}
 use Rattle.states.proofs.starting.readers_valid.Key.{name as #readers-valid}
 use Rattle.states.proofs.starting.readers_valid as f
 use Rattle.states.proofs.starting.readers_valid.Statement as stated

@@ -51,14 +51,14 @@ use Rattle.protocol.proofs.Writer.Laws as TW′
 use Rattle.checks.specs.Layout.{small}
 use Rattle.checks.specs.Valid.{validReader}
 use Rattle.states.specs.Start.{startIf}
-use Rattle.states.proofs.Walks.Start.{unit, walked-free}
-use Rattle.states.proofs.Walks.Flat.{_&_}
-use Rattle.states.proofs.Walks.Locals.{has, spread, the, wide, enters, leaves, arg}
-use Rattle.states.proofs.Walks.Call.{answers}
-use Rattle.states.proofs.Walks.Asks.{made, lent, asked, told, asks}
-use Rattle.states.proofs.Walks.Said.{said, all-fit, all-go}
-use Rattle.states.proofs.Walks.Shared.{doubles}
-use Rattle.states.proofs.Walks.Tokens.{binds, unbinds}
+use Rattle.walks.proofs.Start.{unit, walked-free}
+use Rattle.walks.proofs.Flat.{_&_}
+use Rattle.walks.proofs.Locals.{has, spread, the, wide, enters, leaves, arg}
+use Rattle.walks.proofs.Call.{answers}
+use Rattle.walks.proofs.Asks.{made, lent, asked, told, asks}
+use Rattle.walks.proofs.Said.{said, all-fit, all-go}
+use Rattle.walks.proofs.Shared.{doubles}
+use Rattle.walks.proofs.Tokens.{binds, unbinds}
 use Rattle.states.proofs.starting.readers_valid as g
 use Rattle.states.proofs.starting.readers_valid.Symbol as g-def
 use Rattle.states.proofs.starting.readers_valid.Symbol.{name as #readers-valid}

@@ -18,8 +18,8 @@ use Rattle.protocol.specs.Form.{Form}
 use Rattle.protocol.specs.Memory as protocol
 use Rattle.protocol.specs.declared.Reader.{Reader}
 use Rattle.page.specs.Carry.{lent, Ready}
-use Rattle.states.proofs.Walks.Flat.{_&_}
-use Rattle.states.proofs.Walks.Locals.{the}
+use Rattle.walks.proofs.Flat.{_&_}
+use Rattle.walks.proofs.Locals.{the}
 use Rattle.page.proofs.Walks.Calls.RunRest as rest
 use Rattle.page.proofs.Walks.Calls.RunRest.{Lent, spelt, form, page, writer, buffers, records, commands, tail}
 use Rattle.page.proofs.running.run_all as f

@@ -46,12 +46,12 @@ use Rattle.page.proofs.pen.Pen as TP
 use Rattle.page.proofs.pen.Pen.Laws as TP′
 use Rattle.page.proofs.turning.WriteTurn as TT
 use Rattle.page.proofs.turning.WriteTurn.Laws as TT′
-use Rattle.states.proofs.Walks.Flat.{_&_}
-use Rattle.states.proofs.Walks.Locals.{Slot, free, has, locals, arg}
-use Rattle.states.proofs.Walks.Again.{lends-on}
-use Rattle.states.proofs.Walks.Call.{calls-with, calls-with-last, answers, answers-last}
-use Rattle.states.proofs.Walks.Asks.{made, lent as lent-as, asked as asked-of, asked-if, told, asks, lends}
-use Rattle.states.proofs.Walks.Whole.{anew}
+use Rattle.walks.proofs.Flat.{_&_}
+use Rattle.walks.proofs.Locals.{Slot, free, has, locals, arg}
+use Rattle.walks.proofs.Again.{lends-on}
+use Rattle.walks.proofs.Call.{calls-with, calls-with-last, answers, answers-last}
+use Rattle.walks.proofs.Asks.{made, lent as lent-as, asked as asked-of, asked-if, told, asks, lends}
+use Rattle.walks.proofs.Whole.{anew}
 use Rattle.page.proofs.Walks.Calls.RunRest.{page, buffers, records, commands, log}
 use Rattle.page.proofs.Walks.Calls.RunOpen as loan
 use Rattle.page.proofs.Walks.Calls.RunOpen.{lends-script, script-back, relends-turn, come-turn, relends-page}

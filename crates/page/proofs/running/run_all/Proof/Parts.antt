@@ -19,10 +19,10 @@ use types.Run.{Below}
 use denote.Builtin.{u8}
 use denote.Ref.{RefT}
 use denote.Slice.{sliceVal}
-use Rattle.states.proofs.Walks.After.{after}
-use Rattle.states.proofs.Walks.Arms.{if-held, if-failed}
-use Rattle.states.proofs.Walks.Locals.{Slot, free, has, spread, locals}
-use Rattle.states.proofs.Walks.Whole.{anew}
+use Rattle.walks.proofs.After.{after}
+use Rattle.walks.proofs.Arms.{if-held, if-failed}
+use Rattle.walks.proofs.Locals.{Slot, free, has, spread, locals}
+use Rattle.walks.proofs.Whole.{anew}
 use Rattle.page.proofs.Walks.Calls.RunRest.{page}
 use Rattle.page.proofs.Walks.Calls.RunOpen as loan
 use Rattle.page.proofs.Walks.Calls.RunOpen.{Lies, Shared, Shuts}

@@ -39,13 +39,13 @@ use Rattle.page.proofs.looping.Standing as TS
 use Rattle.page.proofs.looping.Standing.Laws as TS′
 use Rattle.page.proofs.Loop.Turns.{bytes-left}
 use Rattle.page.proofs.Loop.Steps.{was-moved, was-kept}
-use Rattle.states.proofs.Walks.Flat.{_&_}
-use Rattle.states.proofs.Walks.Tests.{holds-true}
-use Rattle.states.proofs.Walks.Locals.{Slot, free, has, locals, arg}
-use Rattle.states.proofs.Walks.Again.{lends-on}
-use Rattle.states.proofs.Walks.Call.{calls-with-last, answers, answers-last}
-use Rattle.states.proofs.Walks.Asks.{made, lent as lent-as, asked-if, told, asks, lends}
-use Rattle.states.proofs.Walks.Whole.{anew}
+use Rattle.walks.proofs.Flat.{_&_}
+use Rattle.walks.proofs.Tests.{holds-true}
+use Rattle.walks.proofs.Locals.{Slot, free, has, locals, arg}
+use Rattle.walks.proofs.Again.{lends-on}
+use Rattle.walks.proofs.Call.{calls-with-last, answers, answers-last}
+use Rattle.walks.proofs.Asks.{made, lent as lent-as, asked-if, told, asks, lends}
+use Rattle.walks.proofs.Whole.{anew}
 use Rattle.page.proofs.Walks.Calls.RunRest.{page, buffers, commands}
 use Rattle.page.proofs.Walks.Calls.RunOpen as loan
 use Rattle.page.proofs.Walks.Calls.RunOpen.{Lies, lends-script, script-back, relends-advance, come-advance}

@@ -36,8 +36,8 @@ use Rattle.page.proofs.Loop.Turns.{bytes-left, done-below, written-insi
 use Rattle.page.proofs.Loop.Rounds.{turn-ready, going-read, pen-ready, no-reader-in, going-write}
 use Rattle.page.proofs.Loop.Steps.{step-inside, step-ready, going-step, then-ends}
 use Rattle.page.proofs.Loop.WriteSteps.{can-write, going-wrote}
-use Rattle.states.proofs.Walks.Flat.{_&_}
-use Rattle.states.proofs.Walks.Tests.{holds-true}
+use Rattle.walks.proofs.Flat.{_&_}
+use Rattle.walks.proofs.Tests.{holds-true}
 use Rattle.page.proofs.Walks.Calls.RunRest.{log, AsLong}
 use Rattle.page.proofs.Walks.Calls.TurnAt as turn
 use Rattle.page.proofs.running.run_all.Proof.Values.{State, Three, WriteAnswer, val, pen-val, as-val, memory}

@@ -37,12 +37,12 @@ use Rattle.page.proofs.looping.Standing.Laws as TS′
 use Rattle.page.proofs.pen.Pen as TP
 use Rattle.page.proofs.pen.Pen.Laws as TP′
 use Rattle.page.proofs.Loop.Turns.{bytes-left}
-use Rattle.states.proofs.Walks.Flat.{_&_}
-use Rattle.states.proofs.Walks.Tests.{holds-true, holds-false}
-use Rattle.states.proofs.Walks.Locals.{arg}
-use Rattle.states.proofs.Walks.Again.{lends-on}
-use Rattle.states.proofs.Walks.Call.{calls-with-last, answers, answers-last}
-use Rattle.states.proofs.Walks.Asks.{made, lent as lent-as, asked-if, told, asks, lends}
+use Rattle.walks.proofs.Flat.{_&_}
+use Rattle.walks.proofs.Tests.{holds-true, holds-false}
+use Rattle.walks.proofs.Locals.{arg}
+use Rattle.walks.proofs.Again.{lends-on}
+use Rattle.walks.proofs.Call.{calls-with-last, answers, answers-last}
+use Rattle.walks.proofs.Asks.{made, lent as lent-as, asked-if, told, asks, lends}
 use Rattle.page.proofs.Walks.Calls.RunRest.{page, records, commands}
 use Rattle.page.proofs.Walks.Calls.RunOpen.{lends-script, script-back, relends-page, come-page}
 use Rattle.page.proofs.turning.writes_on as g-writes-on

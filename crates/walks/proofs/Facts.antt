@@ -22,8 +22,8 @@ use denote.Triple.Clauses.{Ended, Clauses, Lasts, atExit, lasts, closing}
 use denote.Triple.Entry.{Res, alive, onEntry}
 use denote.Triple.Spec.{tripleOf}
 use denote.Triple.Statement.{Contract, Triple}
-use Rattle.states.proofs.Walks.Call.{calls-with}
-use Rattle.lagumtay.proofs.Walks.Apart.{tokens, toks-are}
+use Rattle.walks.proofs.Call.{calls-with}
+use Rattle.walks.proofs.Apart.{tokens, toks-are}
 
 -- two facts are one
 pub both : {M : Type 1} (𝓤 : URA M) (φ ψ : Type 0) → ent 𝓤 (sep 𝓤 (fact 𝓤 φ) (fact 𝓤 ψ)) (fact 𝓤 (φ × ψ))

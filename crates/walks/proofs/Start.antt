@@ -15,7 +15,7 @@ use denote.Triple.Clauses.{Clauses, Ended}
 use denote.Triple.Walked.{Stays, Walks, walkOf, walked, needs}
 
 -- a value of a type that has one
-abbrev Single : Type 0 → Type 0
+abbrev pub Single : Type 0 → Type 0
 Single X = (x : X) × ((y : X) → x ≡ y)
 
 abbrev pub unit : Single (Unit {0})
@@ -36,7 +36,7 @@ module _ {M : Type 1} (𝓤 : URA M) (H : Heap 𝓤) (A : Atoms 𝓤) (T : Ended
   abbrev vals : (κs : Lfts (S .lifetimes)) → Args S κs → Vals S κs
   vals κs a = valss (typesAt (S .params) κs) (sp κs) a
 
-  abbrev Typed : (κs : Lfts (S .lifetimes)) → Args S κs → Type 0
+  abbrev pub Typed : (κs : Lfts (S .lifetimes)) → Args S κs → Type 0
   Typed κs a = Are (typesAt (S .params) κs) (Ises (typesAt (S .params) κs)) a (vals κs a)
 
   -- what a walk gets, and what it shows
@@ -48,7 +48,7 @@ module _ {M : Type 1} (𝓤 : URA M) (H : Heap 𝓤) (A : Atoms 𝓤) (T : Ended
   Goal κs qs a b g =
       run (flat (typesAt (S .params) κs) (vals κs a)) (walkOf 𝓤 H A T hs c .post ((κs, qs, b, a, vals κs a), g))
 
-  abbrev Walk : (κs : Lfts (S .lifetimes)) → Shares (S .lifetimes) → Args S κs → Type 1
+  abbrev pub Walk : (κs : Lfts (S .lifetimes)) → Shares (S .lifetimes) → Args S κs → Type 1
   Walk κs qs a = ent 𝓤 (Entry κs qs a) (Goal κs qs a (bounds κs .0) (ghosts κs a .0))
 
   any : (κs : Lfts (S .lifetimes)) (qs : Shares (S .lifetimes)) (a : Args S κs)

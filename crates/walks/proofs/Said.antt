@@ -20,7 +20,7 @@ use denote.Signature.{Slot, typesAt}
 use denote.Exit.{Kept, left}
 use denote.Triple.End.{Kepts, Fins}
 use denote.Triple.Walked.{Stay, Stays, fitsOf, AllGo}
-use Rattle.states.proofs.Walks.Kept.{Own, kept-slice}
+use Rattle.walks.proofs.Kept.{Own, kept-slice}
 
 module _ {n : ℕ} where
   abbrev one-said : (s : Slot n) (k : Kept) → Stay s k

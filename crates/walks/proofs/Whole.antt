@@ -24,7 +24,7 @@ use denote.Ref.{RefT}
 use denote.Slice.{Room, heres, codedHoleys, finally}
 use denote.Lend.{Held, lends-slice, slice-back}
 use denote.Index.{row, whole-in, whole-out, opens-slice, closes-slice}
-use Rattle.states.proofs.Walks.Kept.{Own, obs-ends}
+use Rattle.walks.proofs.Kept.{Own, obs-ends}
 
 module _ (R : RattleType) (x : RefT (List (R .Denot))) where
   abbrev b : ℕ

@@ -28,8 +28,8 @@ use denote.Laws.{Is, Makes}
 use denote.Steps.{nothing}
 use denote.Triple.Statement.{Contract, Triple}
 use denote.Triple.Walked.{says}
-use Rattle.states.proofs.Walks.Call.{calls-with}
-use Rattle.states.proofs.Walks.Values.{answer, answered}
+use Rattle.walks.proofs.Call.{calls-with}
+use Rattle.walks.proofs.Values.{answer, answered}
 
 pub data How {M : Type 1} (𝓤 : URA M) (H : Heap 𝓤) (A : Atoms 𝓤) (R : RattleType) (x : R .Denot) (vs : List Val) : Type 1
   where

@@ -1,6 +1,7 @@
 -- The statements that make a reference for a call.
 --     lends-on    a slice that a local holds is lent on, `_i = &mut *_s.0; _j = {_i, _s.1}`: another local holds its
 --                 two words
+--     lends-one   what is behind a reference that a local holds is lent on, `_i = &mut *_s`: another local holds it too
 --     borrows     a local is lent, `_i = &mut _s`: nothing is asked of what it holds
 use mathlib.Core.Path.{_≡_, refl, sym, subst}
 use Prim.Native.Nat.{ℕ, zero, suc, _<_, _^_}
@@ -18,7 +19,7 @@ use types.Kit.{Post, Step, step, Given, Item, ‵, nth, put, runs, _$_}
 use types.Run.{Walks, Finds, look, init, stop, hop, fld, from, load, addr, and-then, no-more, assigns}
 use types.Part.{agg, whole, sub, look-in}
 use denote.Slice.{sliceTy, sliceVal}
-use Rattle.states.proofs.Walks.Locals.{takes, puts}
+use Rattle.walks.proofs.Locals.{takes, puts}
 
 module _ {M : Type 1} (𝓤 : URA M) (H : Heap 𝓤) (A : Atoms 𝓤) where
   -- what is left of a context once three entries are taken out, and the three put back
@@ -63,6 +64,17 @@ module _ {M : Type 1} {𝓤 : URA M} {H : Heap 𝓤} {A : Atoms 𝓤} {K : Type 
       (and-then t (load t (found t at-s (fld t refl (stop t))) (look-in t 2 (sub t 1 refl (whole t)))) (no-more t))))
       (found t at-j (stop t)) (init t 0 refl (tt, (tt, (record { fits = fits }, tt)))) $
       puts t (suc (suc nj)) $ puts t (suc ni) $ puts t ns $ k)
+
+  -- at n the context has the local, and at m the other
+  pub lends-one :
+      K → (n m : ℕ) {E : Env 𝓤 H} {C : Calls 𝓤 H} {Λ : Loops 𝓤 H} {q : Post 𝓤 H} {s i : ℕ} {τ : Ty} {rest : Body}
+      {b o : ℕ} → nth 𝓤 H A n Γ ≡ ‵ (fat fullShare (spotOf 𝓤 H E s .0) (spotOf 𝓤 H E s .1) zero (vptr b o)) →
+      nth 𝓤 H A m Γ ≡ ‵ (froom (spotOf 𝓤 H E i .0) (spotOf 𝓤 H E i .1) zero) →
+      Holds (hasTy (spotOf 𝓤 H E i .0) (vptr b o)) →
+      Step K W (put 𝓤 H A m (‵ (fat fullShare (spotOf 𝓤 H E i .0) (spotOf 𝓤 H E i .1) zero (vptr b o))) Γ)
+      (runs C Λ E rest q) Γ (runs C Λ E (seq (assign (place i []) (addrOf (place s (deref τ ∷ [])))) rest) q)
+  lends-one t n m has-s has-i typed =
+      assigns t (addr t (from t (hop t (look t n has-s) (stop t)))) (from t (stop t)) (init t m has-i (typed, tt))
 
   -- at n the context has the local that is to point at the other
   pub borrows :

@@ -26,8 +26,8 @@ use denote.Shadow.{shadow}
 use denote.Array.{each, arrayVal, Array, array-lawful, array-makes}
 use denote.Plain.{UInt, uint-lawful, uint-makes}
 use denote.Steps.{owned}
-use Rattle.states.proofs.Walks.Several.{Spots, lie}
-use Rattle.states.proofs.Walks.Locals.{takes, puts}
+use Rattle.walks.proofs.Several.{Spots, lie}
+use Rattle.walks.proofs.Locals.{takes, puts}
 
 abbrev blank : Width → ℕ → Val
 blank w k = arrayVal (replicate k (vint w 0))

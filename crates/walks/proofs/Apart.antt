@@ -14,7 +14,7 @@ use contract.Lifetimes.{Lfts, Shares, toks}
 use types.Kit.{Goal, Given, Item, ‵, ⋆, nth, put, push, pop, Seq, Step, step, _$_, _∵_, !, qed, by, move, drop, fsplit}
 use types.Kit.{fjoin, feqL, done}
 use denote.Steps.{nothing}
-use Rattle.states.proofs.Walks.Locals.{takes, puts}
+use Rattle.walks.proofs.Locals.{takes, puts}
 
 -- the tokens of lifetimes
 abbrev pub tokens : (n : ℕ) → Lfts n → Shares n → Fml

@@ -25,8 +25,8 @@ use denote.Shadow.{pureI}
 use denote.Slice.{ShrSlice, Room, at-slice, slice-vals, shr-slice-copy}
 use denote.Lend.{lends-shr-slice}
 use denote.Index.{closes-slice}
-use Rattle.states.proofs.Walks.Kept.{Own}
-use Rattle.states.proofs.Walks.Whole.{Lie, Shut, anew, opens}
+use Rattle.walks.proofs.Kept.{Own}
+use Rattle.walks.proofs.Whole.{Lie, Shut, anew, opens}
 
 abbrev pub Shr : (R : RattleType) → Lft → RefT (List (R .Denot)) → Fml
 Shr R κ x = ShrSlice (named 0) κ R .own x (slice-vals x)
