@@ -2,8 +2,8 @@
 """Check the reference itself: against the run, the edges and the trap of document 01, with both ends as document 02 wants
 them; against two small oracles that know no page but only which store came last before which load, over all interleavings of
 small forms; against the history that the commands alone tell, over generated inputs; and that the generator reaches every
-refusal and every sort of ending. Counts are checked on plain and on folded pages. Prints what was checked; the exit status is
-1 if anything fails."""
+refusal and every sort of ending. Counts are checked on plain and on folded pages; the queue is held to its promises. Prints
+what was checked; the exit status is 1 if anything fails."""
 
 import sys
 from collections import Counter
@@ -12,6 +12,7 @@ from pathlib import Path
 
 import folded
 import inputs
+import queue_promises
 import runlist
 from inputs import DOCUMENT_RUN, WRITER, header, read_count, read_record, step, write_count, write_record
 from runlist import BODY_LENGTH, FOLDED, PLAIN, Refusal, digits_of, opened, printed, product, run
@@ -336,6 +337,7 @@ def main():
     record_reads(2, 2, 1, 2, 1, 2)
     generated(1500)
     generated_folded(600)
+    check(queue_promises.check_right(), "the queue does not keep its promises")
     print("%d failed" % failures if failures else "all good")
     return 1 if failures else 0
 

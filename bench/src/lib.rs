@@ -1,6 +1,11 @@
-//! The page in plain Rust beside the proved archive: what `bench` measures and `fuzz` compares.
+//! The page and the queue in plain Rust beside the proved archives: what the benches measure and the fuzz programs
+//! compare.
 
 pub mod owned;
 pub mod plain;
+pub mod plain_queue;
+pub mod queue;
+pub mod queue_random;
 pub mod random;
 pub mod runlist;
+pub mod timing;

@@ -159,8 +159,13 @@ fn ensure(condition: bool, otherwise: Refusal) -> Ending {
 // DIGITS, EIGHT AT ONCE: in one number, the leftmost digit in the highest byte, zeros past the last. So they compare as
 // their values do.
 
+/// A base of a place.
+fn good_base(base: u16) -> bool {
+    (2..=256).contains(&base)
+}
+
 /// All bits of so many places.
-fn high(places: usize) -> u64 {
+pub(crate) fn high(places: usize) -> u64 {
     if places < 8 {
         !(u64::MAX >> (8 * places))
     } else {
@@ -169,7 +174,7 @@ fn high(places: usize) -> u64 {
 }
 
 /// Is each digit at most the other's?
-fn within(digits: u64, most: u64) -> bool {
+pub(crate) fn within(digits: u64, most: u64) -> bool {
     // Exactly then the subtraction of all at once takes nothing from a byte for the one below it.
     let (difference, taken) = most.overflowing_sub(digits);
     !taken & ((difference ^ most ^ digits) & 0x0101_0101_0101_0100 == 0)
@@ -190,19 +195,32 @@ fn top_version(base: u16, q: usize) -> u64 {
 
 /// The places of a count or of a version: their bases, and the largest digits.
 #[derive(Clone, Copy)]
-struct Radix<'a> {
-    bases: &'a [u16],
-    most: u64,
+pub(crate) struct Radix<'a> {
+    pub bases: &'a [u16],
+    pub most: u64,
 }
 
 impl<'a> Radix<'a> {
+    /// Places of these bases, of which there are 1 to 8, if they are good.
+    #[inline(always)]
+    pub fn new(bases: &'a [u16]) -> Option<Radix<'a>> {
+        let mut most = 0;
+        for &base in bases {
+            if !good_base(base) {
+                return None;
+            }
+            most = most << 8 | u64::from(base - 1);
+        }
+        Some(Radix { bases, most: most << (64 - 8 * bases.len()) })
+    }
+
     /// Versions of q places.
     fn versions(base: &'a [u16; 4], q: usize) -> Radix<'a> {
         Radix { bases: &base[..q], most: top_version(base[0], q) }
     }
 
     /// Are all bases 256, so that the digits are the number's bytes?
-    fn bytewise(self) -> bool {
+    pub fn bytewise(self) -> bool {
         self.most == high(self.bases.len())
     }
 
@@ -213,7 +231,7 @@ impl<'a> Radix<'a> {
 
     /// Is each digit at the front of these bytes below its base? So many of the last places are not there.
     #[inline(always)]
-    fn valid(self, bytes: &[u8], missing: usize) -> bool {
+    pub fn valid(self, bytes: &[u8], missing: usize) -> bool {
         let there = |digits: u64| digits >> self.spare() >> (8 * missing);
         match bytes.first_chunk() {
             Some(&eight) => within(there(u64::from_be_bytes(eight)), there(self.most)),
@@ -245,7 +263,7 @@ impl<'a> Radix<'a> {
         (rest == 0).then_some(digits)
     }
 
-    fn value(self, digits: u64) -> u64 {
+    pub fn value(self, digits: u64) -> u64 {
         if self.bytewise() {
             return digits >> self.spare();
         }
@@ -305,19 +323,13 @@ pub fn check_format(format: &Format, bases: &[u16]) -> Ending {
 /// The places of a count, if the format is good. Its layout is not looked at.
 #[inline(always)]
 fn good_places<'a>(format: &Format, bases: &'a [u16]) -> Result<Radix<'a>, Refusal> {
-    let good_base = |base: u16| (2..=256).contains(&base);
     let good = (1..=8).contains(&bases.len())
         && (1..=4).contains(&format.q)
         && good_base(format.base)
         && (1..=256).contains(&format.n)
         && (1..=16).contains(&format.readers);
     ensure(good, BadFormat)?;
-    let mut most = 0;
-    for &base in bases {
-        ensure(good_base(base), BadFormat)?;
-        most = most << 8 | u64::from(base - 1);
-    }
-    Ok(Radix { bases, most: most << (64 - 8 * bases.len()) })
+    Radix::new(bases).ok_or(BadFormat)
 }
 
 /// On a page come c1 with all its digits, a shared one last, then those of c2 that are its own, then version and record.

@@ -5,23 +5,18 @@
 //! Both take turns; the least time of each counts, since whatever else the machine does only adds to it. With --repeat
 //! all is measured N times: a cell has the least times of all, and the least and the greatest ratio. Exit status 1: the
 //! two left different bytes, or the cost is not linear in the commands; 2: bad usage.
-use std::hint::black_box;
 use std::process::exit;
-use std::time::{Duration, Instant};
-use std::{env, fmt};
+use std::time::Instant;
 
 use lagumtay::raw::{Answer, Format, FOLDED, LONGEST_ENTRY, PLAIN};
 use lagumtay_bench::owned::Owned;
 use lagumtay_bench::plain::{self, number};
 use lagumtay_bench::random::Random;
+use lagumtay_bench::timing::{self, deeper, least, Cell};
 
 const COMMANDS: usize = 30_000;
 /// How many commands a run has, column by column.
 const RUNS: [usize; 3] = [1, 100, COMMANDS];
-/// Turns go on for so long, and there are so many at least: neither a short disturbance nor the place of the stack must
-/// decide.
-const TURNS: usize = 64;
-const TIME: Duration = Duration::from_millis(600);
 /// How much dearer a command of a four times longer run may be before the cost counts as not linear.
 const MOST_GROWTH: f64 = 1.5;
 
@@ -223,68 +218,8 @@ impl Case {
     }
 }
 
-/// Calls from so many frames further down the stack. A load waits for a store that lies a multiple of 4096 bytes from
-/// it, so that with one place of the stack beside what is lent a side may have bad luck throughout.
-#[inline(never)]
-fn deeper(frames: usize, call: &mut dyn FnMut()) {
-    match frames {
-        0 => call(),
-        _ => deeper(black_box(frames - 1), call),
-    }
-    black_box(frames);
-}
-
-/// The least times of all who take turns.
-fn least(mut turn: impl FnMut(usize) -> [f64; 2]) -> [f64; 2] {
-    let mut least = [f64::MAX; 2];
-    let start = Instant::now();
-    let mut turns = 0;
-    while turns < TURNS || start.elapsed() < TIME {
-        turns += 1;
-        let times = turn(turns % TURNS);
-        least = [least[0].min(times[0]), least[1].min(times[1])];
-    }
-    least
-}
-
 fn count_write(count: u64) -> Vec<u8> {
     [&[1][..], &count.to_be_bytes()].concat()
-}
-
-/// The least times, and between what the archive's time divided by plain's lay.
-struct Cell {
-    plain: f64,
-    archive: f64,
-    least: f64,
-    greatest: f64,
-}
-
-impl Cell {
-    fn measured(case: &Case, each: usize) -> Cell {
-        let [plain, archive] = least(|depth| case.turn(each, depth));
-        let ratio = archive / plain;
-        Cell { plain, archive, least: ratio, greatest: ratio }
-    }
-
-    fn and(self, other: Cell) -> Cell {
-        Cell {
-            plain: self.plain.min(other.plain),
-            archive: self.archive.min(other.archive),
-            least: self.least.min(other.least),
-            greatest: self.greatest.max(other.greatest),
-        }
-    }
-}
-
-impl fmt::Display for Cell {
-    fn fmt(&self, f: &mut fmt::Formatter) -> fmt::Result {
-        let Cell { plain, archive, least, greatest } = self;
-        write!(f, "{plain:.1}, {archive:.1}, {least:.2}")?;
-        if least < greatest {
-            write!(f, " to {greatest:.2}")?;
-        }
-        Ok(())
-    }
 }
 
 fn cases(commands: usize) -> Vec<Case> {
@@ -293,16 +228,13 @@ fn cases(commands: usize) -> Vec<Case> {
 
 fn print_table(repeat: usize) {
     let cases = cases(COMMANDS);
-    let measured = || cases.iter().flat_map(|case| RUNS.map(|each| Cell::measured(case, each)));
-    let mut table: Vec<Cell> = measured().collect();
-    for _ in 1..repeat {
-        table = table.into_iter().zip(measured()).map(|(cell, again)| cell.and(again)).collect();
-    }
+    let cell = |case: &Case, each| Cell::measured(|depth| case.turn(each, depth));
+    let table = timing::table(repeat, || cases.iter().flat_map(|case| RUNS.map(|each| cell(case, each))).collect());
     println!("Nanoseconds a command: plain, the archive, and its time divided by plain's.\n");
     println!("| commands | runs of 1 | of 100 | of {COMMANDS} |");
     println!("|---|---|---|---|");
     for (case, row) in cases.iter().zip(table.chunks(RUNS.len())) {
-        println!("| {} | {} |", case.name, row.iter().map(Cell::to_string).collect::<Vec<_>>().join(" | "));
+        println!("{}", timing::row(case.name, row));
     }
     println!("\nBoth left the same page, states, buffers and log, byte for byte, after every turn.\n");
 }
@@ -325,14 +257,7 @@ fn print_growth() -> bool {
 }
 
 fn main() {
-    let arguments: Vec<String> = env::args().skip(1).collect();
-    let arguments: Vec<&str> = arguments.iter().map(String::as_str).collect();
-    let repeat = match arguments[..] {
-        [] => Some(1),
-        ["--repeat", times] => times.parse().ok().filter(|&times| times > 0),
-        _ => None,
-    };
-    let Some(repeat) = repeat else {
+    let Some(repeat) = timing::repeat() else {
         eprintln!("usage: bench [--repeat N]");
         exit(2)
     };

@@ -15,8 +15,11 @@
 //!
 //! A page is laid out plain or folded, as its [`Layout`] says: a folded one has a count digit fewer, and a count write or
 //! read a step fewer.
+//!
+//! Beside the page there is [`queue`], through which parcels go from one sender to one receiver.
 
 mod entry;
+pub mod queue;
 pub mod raw;
 
 use std::{error, fmt};
