@@ -26,6 +26,10 @@ const ROWS: &[(&str, usize, Schedule)] = &[
     ("count writes and reads, m = 8", 1, Counts { m: 8, layout: PLAIN }),
     ("count writes and reads, m = 2, folded", 1, Counts { m: 2, layout: FOLDED }),
     ("count writes and reads, m = 8, folded", 1, Counts { m: 8, layout: FOLDED }),
+    ("count reads, m = 2", 1, Reads { m: 2, parted: false }),
+    ("count reads, m = 8", 1, Reads { m: 8, parted: false }),
+    ("count reads between two counts, m = 2", 1, Reads { m: 2, parted: true }),
+    ("count reads between two counts, m = 8", 1, Reads { m: 8, parted: true }),
     ("record writes and reads, n = 2", 1, Records { n: 2 }),
     ("record writes and reads, n = 256", 1, Records { n: 256 }),
     ("counts and records, steps in random order", 1, Mixed { most: 1 }),
@@ -42,6 +46,8 @@ const ROWS: &[(&str, usize, Schedule)] = &[
 enum Schedule {
     /// One count after the other, written and then read by the next reader.
     Counts { m: usize, layout: u16 },
+    /// One count read after the other, on a plain page, of copies that are equal or that part.
+    Reads { m: usize, parted: bool },
     /// One record after the other, on a plain page, written and then read by the next reader.
     Records { n: usize },
     /// On a plain page, readers of counts and records in random turns with a writer of both; a turn has up to so many
@@ -96,6 +102,7 @@ impl Case {
     fn new(&(name, readers, ref schedule): &(&'static str, usize, Schedule), commands: usize) -> Case {
         let mut case = match *schedule {
             Counts { m, layout } => Case::counts(readers, m, layout, commands),
+            Reads { m, parted } => Case::reads(readers, m, parted, commands),
             Records { n } => Case::records(readers, n, commands),
             Mixed { most } => Case::mixed(readers, most, commands),
         };
@@ -119,13 +126,42 @@ impl Case {
         self.begins.push(self.bytes.len());
     }
 
-    fn counts(readers: usize, m: usize, layout: u16, commands: usize) -> Case {
+    /// A page with a large count, so that each digit takes part.
+    fn counting(readers: usize, m: usize, layout: u16) -> (Hall, u64) {
         let format = Format { q: 1, base: 2, layout, n: 1, readers };
-        // Large counts, so that each digit takes part.
         let first = (1u64 << (8 * m - 1)) + 1;
-        let opened = Hall::open(&vec![256; m], format, first, vec![0]);
+        (Hall::open(&vec![256; m], format, first, vec![0]), first)
+    }
+
+    fn counts(readers: usize, m: usize, layout: u16, commands: usize) -> Case {
+        let (opened, first) = Case::counting(readers, m, layout);
         let write = |i| count_write(first + 1 + i as u64);
         Case::in_turn(opened, commands, 2 * m - usize::from(layout), write, |reader| vec![4, reader])
+    }
+
+    fn reads(readers: usize, m: usize, parted: bool, commands: usize) -> Case {
+        let (mut opened, first) = Case::counting(readers, m, PLAIN);
+        if parted {
+            // The second copy is written whole, the first not yet; they part left of the middle. By the archive: plain
+            // is compiled into its callers, and is slower where it has one more.
+            let write = [count_write(first + (1 << (4 * m))), vec![3; m]].concat();
+            assert_eq!(opened.archive(&write).1, 0);
+        }
+        let mut case = Case::empty(opened);
+        for i in 0..commands.div_ceil(2 * m + 1) {
+            let reader = (i % readers) as u8;
+            case.push_read(reader, &[4, reader], 2 * m);
+        }
+        let mut once = case.opened.clone();
+        once.log = vec![0; LONGEST_ENTRY];
+        once.archive(&case.bytes[..case.begins[2 * m + 1]]);
+        assert_eq!(once.log[0], if parted { 4 } else { 1 });
+        case
+    }
+
+    fn push_read(&mut self, reader: u8, begin: &[u8], steps: usize) {
+        self.push(begin);
+        (0..steps).for_each(|_| self.push(&[6, reader]));
     }
 
     fn records(readers: usize, n: usize, commands: usize) -> Case {
@@ -149,8 +185,7 @@ impl Case {
             let reader = (i % readers) as u8;
             case.push(&write(i));
             (0..steps).for_each(|_| case.push(&[3]));
-            case.push(&read(reader));
-            (0..steps).for_each(|_| case.push(&[6, reader]));
+            case.push_read(reader, &read(reader), steps);
         }
         case
     }
