@@ -11,14 +11,15 @@ use Rattle.protocol.specs.Allowed.{versionDigits}
 use Rattle.protocol.specs.Memory.{readerOf}
 use Rattle.protocol.specs.declared.Stage.{Stage}
 use Rattle.checks.specs.Layout.{small}
-use Rattle.checks.specs.Valid.{validReader}
+use Rattle.checks.specs.Valid.{choiceOk, validReader}
 use Rattle.checks.specs.Digits.{gatheredOk}
 use Rattle.checks.proofs.Small.{small-bounds}
 use Rattle.checks.proofs.Reading.{readerOk, reader-ok}
 
-module _ (F : Form) (few : small F ≡ true) (s : Stage) (l : List ℕ) (long : length l ≡ 16) where
+module _ (F : Form) (few : small F ≡ true) (s : Stage) (l : List ℕ) (long : length l ≡ 16)
+    (chosen : choiceOk s ≡ true) where
   ok : readerOk F (readerOf s l) ≡ validReader F (readerOf s l)
-  ok = reader-ok F (small-bounds F few) (readerOf s l) long
+  ok = reader-ok F (small-bounds F few) (readerOf s l) long chosen
 
   -- a record read
   pub record-spent : s .kind ≡ 2 → s .allowed ≤ s .finished → false ≡ validReader F (readerOf s l)

@@ -1,26 +1,29 @@
 -- The code's tests of one reader, by its kind, are the protocol's. They ask small numbers only.
-use mathlib.Core.Path.{_≡_, refl, sym, subst, _∙_}
+use mathlib.Core.Path.{_≡_, refl, sym, ap, subst, _∙_}
 use mathlib.Core.List.{List}
-use mathlib.Core.Bool.{Bool, true, false, _&&_, cond}
+use mathlib.Core.Bool.{Bool, true, false, _&&_, _||_, cond, true≢false}
 use Prim.Native.Nat.{ℕ, _+_, _-_, _≤_, _<_, min}
 use native.Mathlib.Omega.{arith}
 use lib.Dec.{eqb, ltb}
 use lib.ListN.{length, drop, length-replicate, getD-replicate}
 use borrow.Author.Tests.{eqb-true, eq-eqb, ltb-true, lt-ltb}
+use Rattle.radix.specs.declared.Choice.the-variants.{Low, High}
 use Rattle.radix.specs.Digits.{valid}
 use Rattle.protocol.specs.Lists.{every}
 use Rattle.protocol.specs.Load.{same}
 use Rattle.protocol.specs.Form.{Form, m, own, versionBases, countSteps, recordSteps}
 use Rattle.protocol.specs.Layout.{countBases}
-use Rattle.protocol.specs.State.{Reading}
+use Rattle.protocol.specs.State.{Reading, idle, ofCount, ofRecord}
 use Rattle.protocol.specs.Allowed.{allowedReading, versionDigits}
 use Rattle.protocol.specs.Memory.{storedDigits, storedReading}
-use Rattle.protocol.specs.Load.{loadDigits, loadReading, sameReader}
+use Rattle.protocol.specs.Outcome.{choiceNumber}
+use Rattle.protocol.specs.Load.{choiceOf, loadDigits, loadReading, sameReader}
 use Rattle.protocol.specs.declared.Reader.{Reader}
 use Rattle.protocol.proofs.Lists.Cases.{both, together, eqb-refl}
-use Rattle.checks.specs.Valid.{validReader}
+use Rattle.protocol.proofs.Memory.Entries.{choice-back, sameReader-eq}
+use Rattle.checks.specs.Valid.{choiceOk, validReader}
 use Rattle.checks.specs.Digits.{gatheredOk}
-use Rattle.checks.proofs.Tests.{same-test, eqb-sym}
+use Rattle.checks.proofs.Tests.{refuted, same-test, eqb-sym, and-true}
 use Rattle.checks.proofs.Small.{Bounds}
 use Rattle.checks.proofs.Digits.Masks.{loaded-size}
 use Rattle.checks.proofs.Digits.Gathered.{gathered-length, gathered-count, gathered-version, gathered-none}
@@ -37,7 +40,8 @@ readerOk F x =
     && ltb steps (recordSteps F)
     && gatheredOk (versionBases F) (F .q) (x .digits) (versionDigits F steps)))
 
-module _ (F : Form) (bounds : Bounds F) (x : Reader) (long : length (x .digits) ≡ 16) where
+module _ (F : Form) (bounds : Bounds F) (x : Reader) (long : length (x .digits) ≡ 16)
+    (chosen : choiceOk (x .stage) ≡ true) where
   abbrev kind : ℕ
   kind = x .stage .kind
 
@@ -50,6 +54,9 @@ module _ (F : Form) (bounds : Bounds F) (x : Reader) (long : length (x .digits) 
   abbrev steps : ℕ
   steps = x .stage .steps
 
+  abbrev choice : ℕ
+  choice = x .stage .choice
+
   abbrev l : List ℕ
   l = x .digits
 
@@ -59,15 +66,37 @@ module _ (F : Form) (bounds : Bounds F) (x : Reader) (long : length (x .digits) 
   abbrev Same : Type 0
   Same = readerOk F x ≡ tested (loadReading F x)
 
+  -- THE CHOICE: 0 or 1, and 0 but for a count read
+  few-choices : choice ≤ 1
+  few-choices = go (eqb choice 0) (eqb choice 1) refl refl chosen
+    where
+      go : (a b : Bool) → eqb choice 0 ≡ a → eqb choice 1 ≡ b → a || (b && eqb kind 1) ≡ true → choice ≤ 1
+      go true b p q h = omega (arith, eqb-true choice 0 p)
+      go false true p q h = omega (arith, eqb-true choice 1 q)
+      go false false p q h = absurd (true≢false (sym h))
+
+  no-choice : eqb kind 1 ≡ false → choice ≡ 0
+  no-choice e = go (eqb choice 0) (eqb choice 1) refl (rw e at chosen)
+    where
+      go : (a b : Bool) → eqb choice 0 ≡ a → a || (b && false) ≡ true → choice ≡ 0
+      go true b p h = eqb-true choice 0 p
+      go false true p h = absurd (true≢false (sym h))
+      go false false p h = absurd (true≢false (sym h))
+
+  the-choice : eqb (choiceNumber (choiceOf choice)) choice ≡ true
+  the-choice = eq-eqb (choiceNumber (choiceOf choice)) choice (choice-back choice few-choices)
+
   -- KIND 0
   when-idle : kind ≡ 0 → Same
   unfolding readerOk loadReading allowedReading storedReading
   when-idle e =
       rw (
         e,
+        no-choice (ap (λ k. eqb k 1) e),
         eqb-sym most 0,
         eqb-sym used 0,
         eqb-sym steps 0,
+        and-true (eqb 0 most && eqb 0 used),
         gathered-none (F .bases) l (own F) (omega arith) (bounds .places) long,
       )
 
@@ -92,7 +121,7 @@ module _ (F : Form) (bounds : Bounds F) (x : Reader) (long : length (x .digits) 
 
   count-meant : kind ≡ 1 → tested (loadReading F x) ≡ countTests
   unfolding loadReading allowedReading storedReading
-  count-meant e = rw e
+  count-meant e = rw (e, the-choice, and-true (eqb 0 most && eqb 0 used))
 
   count-to :
       eqb most 0 && eqb used 0 && ltb steps (countSteps F) && gatheredOk (F .bases) (own F) l steps ≡ true →
@@ -161,7 +190,7 @@ module _ (F : Form) (bounds : Bounds F) (x : Reader) (long : length (x .digits) 
       && every (λ d. ltb d (F .base)) version)
       && same (storedDigits (F .q) (length version - F .q) version) l
   unfolding loadReading allowedReading storedReading
-  record-meant e = rw (e, eqb-refl most, eqb-refl used, eqb-refl steps)
+  record-meant e = rw (e, no-choice (ap (λ k. eqb k 1) e), eqb-refl most, eqb-refl used, eqb-refl steps)
 
   version-gathered :
       versionDigits F steps ≤ F .q + F .q →
@@ -236,3 +265,21 @@ module _ (F : Form) (bounds : Bounds F) (x : Reader) (long : length (x .digits) 
   pub reader-ok : readerOk F x ≡ validReader F x
   unfolding validReader
   reader-ok = by-kind
+
+-- what is stored has such a choice, so a state with another is none
+stored-choice : (F : Form) (y : Reading) → choiceOk (storedReading F y .stage) ≡ true
+unfolding storedReading
+stored-choice F idle = refl
+stored-choice F (ofCount Low ds) = refl
+stored-choice F (ofCount High ds) = refl
+stored-choice F (ofRecord a f s ds) = refl
+
+pub bad-choice : (F : Form) (x : Reader) → choiceOk (x .stage) ≡ false → false ≡ validReader F x
+unfolding validReader
+bad-choice F x e =
+    let y = loadReading F x in
+    refuted (allowedReading F y && sameReader (storedReading F y) x)
+    (λ h.
+    let (a, kept) = both (allowedReading F y) (sameReader (storedReading F y) x) h in
+    let same = ap (λ (z : Reader). choiceOk (z .stage)) (sameReader-eq (storedReading F y) x kept) in
+    true≢false (sym (stored-choice F y) ∙ same ∙ e))

@@ -6,7 +6,7 @@ ghost use lib.ListN.{length};
 ghost use Rattle.protocol.specs.Form.{formOf};
 ghost use Rattle.protocol.specs.Memory.{readerOf};
 ghost use Rattle.checks.specs.Layout.{small};
-ghost use Rattle.checks.specs.Valid.{validReader};
+ghost use Rattle.checks.specs.Valid.{choiceOk, validReader};
 ghost use Rattle.checks.specs.Digits.{sumOf, eightOk, gatheredOk};
 use crate::layout;
 use protocol::Format;
@@ -82,7 +82,8 @@ fn none_gathered(bases: &[u16], digits: &[u8]) -> bool
 
 // A record read.
 fn attempt_valid(format: Format, bases: &[u16], s: Stage, digits: &[u8]) -> bool
-    requires { ⌜ (small (formOf (now bases) format) ≡ true) × (length (now digits) ≡ 16) × (s .kind ≡ 2) ⌝ }
+    requires { ⌜ (small (formOf (now bases) format) ≡ true) × (length (now digits) ≡ 16) × (s .kind ≡ 2)
+        × (choiceOk s ≡ true) ⌝ }
     ensures { λ r. ⌜ r ≡ validReader (formOf (now (bases .entry)) format) (readerOf s (now (digits .entry))) ⌝ }
 {
     let q = format.q;
@@ -101,7 +102,8 @@ fn attempt_valid(format: Format, bases: &[u16], s: Stage, digits: &[u8]) -> bool
 
 // A count read, or none.
 fn count_valid(format: Format, bases: &[u16], s: Stage, digits: &[u8]) -> bool
-    requires { ⌜ (small (formOf (now bases) format) ≡ true) × (length (now digits) ≡ 16) × (s .kind ≡ 2 → ⊥) ⌝ }
+    requires { ⌜ (small (formOf (now bases) format) ≡ true) × (length (now digits) ≡ 16) × (s .kind ≡ 2 → ⊥)
+        × (choiceOk s ≡ true) ⌝ }
     ensures { λ r. ⌜ r ≡ validReader (formOf (now (bases .entry)) format) (readerOf s (now (digits .entry))) ⌝ }
 {
     let k = s.steps;
@@ -120,6 +122,19 @@ fn count_valid(format: Format, bases: &[u16], s: Stage, digits: &[u8]) -> bool
     digits_valid(bases, layout::own(format, bases), digits, k)
 }
 
+// Is the choice one that the state may hold?
+fn choice_valid(s: Stage) -> bool
+    ensures { λ r. ⌜ r ≡ choiceOk s ⌝ }
+{
+    if s.choice == 0 {
+        return true;
+    }
+    if s.choice != 1 {
+        return false;
+    }
+    s.kind == 1
+}
+
 // Is the state one that the format allows? No state is, if the numbers of the format are out of range.
 pub fn reader_valid(format: Format, bases: &[u16], x: Reader) -> bool
     ensures { λ r. ⌜ r ≡ (small (formOf (now (bases .entry)) format)
@@ -130,6 +145,9 @@ pub fn reader_valid(format: Format, bases: &[u16], x: Reader) -> bool
     }
     let s = x.stage;
     let d = x.digits;
+    if !choice_valid(s) {
+        return false;
+    }
     if s.kind == 2 {
         return attempt_valid(format, bases, s, &d);
     }

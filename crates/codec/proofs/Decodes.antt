@@ -50,12 +50,21 @@ module _ (s : List ℕ) (at : ℕ) (h : at < length s) where
 
   pub other :
       (getD s at 0 ≡ 1 → ⊥) → (getD s at 0 ≡ 2 → ⊥) → (getD s at 0 ≡ 3 → ⊥) → (getD s at 0 ≡ 4 → ⊥) →
-      (getD s at 0 ≡ 5 → ⊥) → (getD s at 0 ≡ 6 → ⊥) → (getD s at 0 ≡ 7 → ⊥) →
+      (getD s at 0 ≡ 5 → ⊥) → (getD s at 0 ≡ 6 → ⊥) → (getD s at 0 ≡ 7 → ⊥) → (getD s at 0 ≡ 13 → ⊥) →
       Decoded.Unknown ≡ decodeAt s at
   unfolding asDecoded decode
-  other n1 n2 n3 n4 n5 n6 n7 =
+  other n1 n2 n3 n4 n5 n6 n7 n13 =
       sym (kind-is refl
-      ∙ rw (ne-eqb _ 1 n1, ne-eqb _ 2 n2, ne-eqb _ 3 n3, ne-eqb _ 4 n4, ne-eqb _ 5 n5, ne-eqb _ 6 n6, ne-eqb _ 7 n7))
+      ∙ rw (
+        ne-eqb _ 1 n1,
+        ne-eqb _ 2 n2,
+        ne-eqb _ 3 n3,
+        ne-eqb _ 4 n4,
+        ne-eqb _ 5 n5,
+        ne-eqb _ 6 n6,
+        ne-eqb _ 7 n7,
+        ne-eqb _ 13 n13,
+      ))
 
 -- the first bytes of the body
 pub first-byte : (s : List ℕ) (at : ℕ) → getD (body s at) 0 0 ≡ getD s (at + 1) 0

@@ -4,6 +4,7 @@ use mathlib.Core.List.{List, [], _++_}
 use Prim.Native.Nat.{ℕ, zero, suc, _<_}
 use native.Mathlib.Nat.{mod-lt}
 use native.Mathlib.Omega.{arith}
+use Rattle.radix.specs.declared.Choice.the-variants.{Low, High}
 use Rattle.radix.specs.Digits.{bytes}
 use Rattle.radix.proofs.Theorems.RoundTrip.{ofBytes-bytes}
 use Rattle.protocol.specs.Lists.{All}
@@ -26,7 +27,8 @@ unfolding decode encode
 decode-encode (WriteCount c) h = ap (λ n. command (WriteCount (record { 0 = n })) []) (ofBytes-bytes 8 (c .0) h)
 decode-encode (WriteRecord i) h = ap (λ n. command (WriteRecord n) []) (ofBytes-bytes 2 i h)
 decode-encode WriterStep h = refl
-decode-encode (BeginCountRead r) h = refl
+decode-encode (BeginCountRead r Low) h = refl
+decode-encode (BeginCountRead r High) h = refl
 decode-encode (BeginRecordRead r k) h = refl
 decode-encode (ReaderStep r) h = refl
 decode-encode (Cancel r) h = refl
@@ -44,7 +46,8 @@ unfolding encode
 encode-bytes (WriteCount c) h = (omega arith, all-bytes 8 (c .0))
 encode-bytes (WriteRecord i) h = (omega arith, all-bytes 2 i)
 encode-bytes WriterStep h = (omega arith, tt)
-encode-bytes (BeginCountRead r) h = (omega arith, (h, tt))
+encode-bytes (BeginCountRead r Low) h = (omega arith, (h, tt))
+encode-bytes (BeginCountRead r High) h = (omega arith, (h, tt))
 encode-bytes (BeginRecordRead r k) h = (omega arith, (h .0, (h .1, tt)))
 encode-bytes (ReaderStep r) h = (omega arith, (h, tt))
 encode-bytes (Cancel r) h = (omega arith, (h, tt))

@@ -17,46 +17,46 @@ use Rattle.codec.proofs.Packed.{length-packed, unpack-pack}
 
 module _ (l : List ℕ) (i : ℕ) (x : Reader) (long : length (x .digits) ≡ 16) where
   -- where it is there
-  module _ (room : i * 27 + 27 ≤ length l) where
-    pub packed-there : packedAt l i x ≡ overlay l (i * 27) (packed x)
-    packed-there = rw (le-ltb (length l) (i * 27 + 27) room)
+  module _ (room : i * 28 + 28 ≤ length l) where
+    pub packed-there : packedAt l i x ≡ overlay l (i * 28) (packed x)
+    packed-there = rw (le-ltb (length l) (i * 28 + 28) room)
 
-    size-there : length (overlay l (i * 27) (packed x)) ≡ length l
-    size-there = overlay-length l (i * 27) (packed x) (omega (arith, length-packed x long))
+    size-there : length (overlay l (i * 28) (packed x)) ≡ length l
+    size-there = overlay-length l (i * 28) (packed x) (omega (arith, length-packed x long))
 
     pub unpack-same : x .stage .steps < 2 ^ 64 → unpackedAt (packedAt l i x) i ≡ x
     unpack-same small =
-        let t = overlay l (i * 27) (packed x) in
-        let here : part t (i * 27) 27 ≡ packed x =
-        ap (part t (i * 27)) (sym (length-packed x long)) ∙ part-there l (i * 27) (packed x) (omega arith) in
+        let t = overlay l (i * 28) (packed x) in
+        let here : part t (i * 28) 28 ≡ packed x =
+        ap (part t (i * 28)) (sym (length-packed x long)) ∙ part-there l (i * 28) (packed x) (omega arith) in
         ap (λ m. unpackedAt m i) packed-there
-        ∙ rw (le-ltb (length t) (i * 27 + 27) (omega (arith, size-there)), here) (unpack-pack x small long)
+        ∙ rw (le-ltb (length t) (i * 28 + 28) (omega (arith, size-there)), here) (unpack-pack x small long)
 
     module _ (j : ℕ) (other : j ≡ i → ⊥) where
-      part-other : (b : Bool) → ltb j i ≡ b → part (overlay l (i * 27) (packed x)) (j * 27) 27 ≡ part l (j * 27) 27
+      part-other : (b : Bool) → ltb j i ≡ b → part (overlay l (i * 28) (packed x)) (j * 28) 28 ≡ part l (j * 28) 28
       part-other true e =
           let less : j < i = ltb-true j i e in
-          part-before l (i * 27) (packed x) (omega arith) (j * 27) 27 (omega arith)
+          part-before l (i * 28) (packed x) (omega arith) (j * 28) 28 (omega arith)
       part-other false e =
           let more : i ≤ j = ltb-false j i e in
-          part-after l (i * 27) (packed x) (omega arith) (j * 27) 27 (omega (arith, length-packed x long))
+          part-after l (i * 28) (packed x) (omega arith) (j * 28) 28 (omega (arith, length-packed x long))
 
-      other-there : unpackedAt (overlay l (i * 27) (packed x)) j ≡ unpackedAt l j
+      other-there : unpackedAt (overlay l (i * 28) (packed x)) j ≡ unpackedAt l j
       other-there = rw (size-there, part-other (ltb j i) refl)
 
-  by-room : (b : Bool) → ltb (length l) (i * 27 + 27) ≡ b → length (packedAt l i x) ≡ length l
+  by-room : (b : Bool) → ltb (length l) (i * 28 + 28) ≡ b → length (packedAt l i x) ≡ length l
   by-room true e = rw e
-  by-room false e = rw e (size-there (ltb-false (length l) (i * 27 + 27) e))
+  by-room false e = rw e (size-there (ltb-false (length l) (i * 28 + 28) e))
 
   pub packed-length : length (packedAt l i x) ≡ length l
-  packed-length = by-room (ltb (length l) (i * 27 + 27)) refl
+  packed-length = by-room (ltb (length l) (i * 28 + 28)) refl
 
-  other-by : (j : ℕ) → (j ≡ i → ⊥) → (b : Bool) → ltb (length l) (i * 27 + 27) ≡ b
+  other-by : (j : ℕ) → (j ≡ i → ⊥) → (b : Bool) → ltb (length l) (i * 28 + 28) ≡ b
       → unpackedAt (packedAt l i x) j ≡ unpackedAt l j
-  other-by j other true e = ap (λ b. unpackedAt (cond b l (overlay l (i * 27) (packed x))) j) e
+  other-by j other true e = ap (λ b. unpackedAt (cond b l (overlay l (i * 28) (packed x))) j) e
   other-by j other false e =
-      ap (λ b. unpackedAt (cond b l (overlay l (i * 27) (packed x))) j) e
-      ∙ other-there (ltb-false (length l) (i * 27 + 27) e) j other
+      ap (λ b. unpackedAt (cond b l (overlay l (i * 28) (packed x))) j) e
+      ∙ other-there (ltb-false (length l) (i * 28 + 28) e) j other
 
   pub unpack-other : (j : ℕ) → (j ≡ i → ⊥) → unpackedAt (packedAt l i x) j ≡ unpackedAt l j
-  unpack-other j other = other-by j other (ltb (length l) (i * 27 + 27)) refl
+  unpack-other j other = other-by j other (ltb (length l) (i * 28 + 28)) refl

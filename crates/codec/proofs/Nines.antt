@@ -22,7 +22,7 @@ unfolding encode
 length-nine (WriteCount c) = refl
 length-nine (WriteRecord i) = refl
 length-nine WriterStep = refl
-length-nine (BeginCountRead r) = refl
+length-nine (BeginCountRead r c) = refl
 length-nine (BeginRecordRead r k) = refl
 length-nine (ReaderStep r) = refl
 length-nine (Cancel r) = refl

@@ -5,6 +5,7 @@ use Prim.Native.Nat.{ℕ, _+_, _≤_}
 use native.Mathlib.Omega.{arith}
 use lib.ListN.{length, set, length-set}
 use Rattle.radix.specs.Digits.{bytes}
+use Rattle.radix.specs.declared.Choice.{Choice}
 use Rattle.radix.specs.declared.Count.{Count}
 use Rattle.radix.specs.declared.Version.{Version}
 use Rattle.radix.proofs.Theorems.RoundTrip.{length-bytes}
@@ -32,7 +33,7 @@ module _ {o : Outcome} where
     unfolding entry
     size-gave e = ap (λ o. length (entry o)) e
 
-    pub size-between : {a b : Count} → o ≡ Between r a b → length (entry o) ≡ 18
+    pub size-between : {a b : Count} {ch : Choice} → o ≡ Between r ch a b → length (entry o) ≡ 18
     unfolding entry
     size-between e = ap (λ o. length (entry o)) e
 
@@ -59,7 +60,7 @@ module _ (l : List ℕ) (at : ℕ) {o : Outcome} where
         sym (overlay-none (set (set (set l at 3) (at + 1) r) (at + 2) k) (at + 3)) ∙ after-three l at 3 r k [] h
         ∙ rw e
 
-    pub fill-between : {a b : Count} → o ≡ Between r a b → at + 18 ≤ length l → {t : List ℕ}
+    pub fill-between : {a b : Count} {ch : Choice} → o ≡ Between r ch a b → at + 18 ≤ length l → {t : List ℕ}
         → t ≡ overlay (set (set l at 4) (at + 1) r) (at + 2) (bytes 8 (a .0))
         → overlay t (at + 10) (bytes 8 (b .0)) ≡ overlay l at (entry o)
     unfolding entry

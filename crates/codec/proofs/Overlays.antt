@@ -56,16 +56,28 @@ overlay-first (a ∷ l) ds (suc p) v h =
     ∙ ap (λ t. a ∷ t) (overlay-first l ds p v (omega arith))
     ∙ sym (overlay-cons a l p (v ∷ ds))
 
--- two or three bytes, then others
+-- a byte after the first k, then others
+after-one :
+    (l : List ℕ) (at k v : ℕ) (ds : List ℕ) → at + k < length l →
+    overlay (set l (at + k) v) (at + suc k) ds ≡ overlay l (at + k) (v ∷ ds)
+after-one l at k v ds h =
+    let e : at + suc k ≡ suc (at + k) = omega arith in
+    ap (λ p. overlay (set l (at + k) v) p ds) e ∙ overlay-first l ds (at + k) v h
+
+-- two, three or four bytes, then others
 module _ (l : List ℕ) (at a b : ℕ) where
+  abbrev two : List ℕ
+  two = set (set l at a) (at + 1) b
+
+  length-two : length two ≡ length l
+  length-two = simp length-set
+
   pub after-two :
       (ds : List ℕ) → at + 2 ≤ length l →
       overlay (set (set l at a) (at + 1) b) (at + 2) ds ≡ overlay l at (a ∷ b ∷ ds)
   after-two ds h =
-      let e : at + 2 ≡ suc (at + 1) = omega arith in
       let f : at + 1 ≡ suc at = omega arith in
-      ap (λ p. overlay (set (set l at a) (at + 1) b) p ds) e
-      ∙ overlay-first (set l at a) ds (at + 1) b (omega (arith, length-set l at a))
+      after-one (set l at a) at 1 b ds (omega (arith, length-set l at a))
       ∙ ap (λ p. overlay (set l at a) p (b ∷ ds)) f
       ∙ overlay-first l (b ∷ ds) at a (omega arith)
 
@@ -73,11 +85,15 @@ module _ (l : List ℕ) (at a b : ℕ) where
       (d : ℕ) (ds : List ℕ) → at + 3 ≤ length l →
       overlay (set (set (set l at a) (at + 1) b) (at + 2) d) (at + 3) ds ≡ overlay l at (a ∷ b ∷ d ∷ ds)
   after-three d ds h =
-      let e : at + 3 ≡ suc (at + 2) = omega arith in
-      let t = set (set l at a) (at + 1) b in
-      ap (λ p. overlay (set t (at + 2) d) p ds) e
-      ∙ overlay-first t ds (at + 2) d (omega (arith, length-set l at a, length-set (set l at a) (at + 1) b))
-      ∙ after-two (d ∷ ds) (omega arith)
+      after-one two at 2 d ds (omega (arith, length-two)) ∙ after-two (d ∷ ds) (omega arith)
+
+  pub after-four :
+      (d e : ℕ) (ds : List ℕ) → at + 4 ≤ length l →
+      overlay (set (set (set (set l at a) (at + 1) b) (at + 2) d) (at + 3) e) (at + 4) ds
+      ≡ overlay l at (a ∷ b ∷ d ∷ e ∷ ds)
+  after-four d e ds h =
+      after-one (set two (at + 2) d) at 3 e ds (omega (arith, length-two, length-set two (at + 2) d))
+      ∙ after-three d (e ∷ ds) (omega arith)
 
 -- what stands before them, and after them
 module _ (l : List ℕ) (p : ℕ) (ds : List ℕ) (h : p ≤ length l) where

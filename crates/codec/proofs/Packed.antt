@@ -1,4 +1,4 @@
--- A reader's state and its 27 bytes say each other.
+-- A reader's state and its 28 bytes say each other.
 use mathlib.Core.Path.{_≡_, sym, ap, _∙_}
 use mathlib.Core.List.{List, [], _∷_, _++_}
 use Prim.Native.Nat.{ℕ, _+_, _^_, _<_}
@@ -14,7 +14,7 @@ use Rattle.protocol.proofs.Lists.Cases.{all-get}
 use Rattle.codec.specs.Packed.{packed, unpacked}
 use Rattle.codec.proofs.Bytes.{valid-bytes, part, part-at, length-part}
 
-pub length-packed : (x : Reader) → length (x .digits) ≡ 16 → length (packed x) ≡ 27
+pub length-packed : (x : Reader) → length (x .digits) ≡ 16 → length (packed x) ≡ 28
 unfolding packed
 length-packed x h = omega (arith, length-append (bytes 8 (x .stage .steps)) (x .digits))
 
@@ -24,7 +24,7 @@ unpack-pack x small long =
     let s = x .stage in
     let n : ofBytes (bytes 8 (s .steps)) ≡ s .steps = ofBytes-bytes 8 (s .steps) small in
     let d : take 16 (x .digits) ≡ x .digits = take-all 16 (x .digits) (omega arith) in
-    λ i. readerOf (stageAt (s .kind) (s .allowed) (s .finished) (n i)) (d i)
+    λ i. readerOf (stageAt (s .kind) (s .allowed) (s .finished) (s .choice) (n i)) (d i)
 
 -- eight of them are a number's bytes
 eight-back :
@@ -37,13 +37,14 @@ eight-back l at h small =
     ap (λ k. bytes k (ofBytes (part l at 8))) (sym long)
     ∙ bytes-ofBytes (part l at 8) (valid-sound _ (part l at 8) each)
 
-pub pack-unpack : (l : List ℕ) → length l ≡ 27 → All (λ b. b < 256) l → packed (unpacked l) ≡ l
+pub pack-unpack : (l : List ℕ) → length l ≡ 28 → All (λ b. b < 256) l → packed (unpacked l) ≡ l
 unfolding packed unpacked
 pack-unpack [] h small = absurd (omega arith)
 pack-unpack (a ∷ []) h small = absurd (omega arith)
 pack-unpack (a ∷ b ∷ []) h small = absurd (omega arith)
-pack-unpack (a ∷ b ∷ c ∷ m) h small =
-    let l = a ∷ b ∷ c ∷ m in
+pack-unpack (a ∷ b ∷ c ∷ []) h small = absurd (omega arith)
+pack-unpack (a ∷ b ∷ c ∷ d ∷ m) h small =
+    let l = a ∷ b ∷ c ∷ d ∷ m in
     let rest : take 16 (drop 8 m) ≡ drop 8 m = take-all 16 (drop 8 m) (omega (arith, length-drop 8 m)) in
-    let eight : bytes 8 (ofBytes (take 8 m)) ≡ take 8 m = eight-back l 3 (omega arith) small in
-    ap (λ t. a ∷ b ∷ c ∷ t) ((λ i. eight i ++ rest i) ∙ take-append-drop 8 m)
+    let eight : bytes 8 (ofBytes (take 8 m)) ≡ take 8 m = eight-back l 4 (omega arith) small in
+    ap (λ t. a ∷ b ∷ c ∷ d ∷ t) ((λ i. eight i ++ rest i) ∙ take-append-drop 8 m)

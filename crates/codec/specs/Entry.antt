@@ -1,9 +1,11 @@
 -- Bytes put over a list from a place on.
+use mathlib.Core.Path.{_≡_}
 use mathlib.Core.List.{List, _++_}
 use mathlib.Core.Bool.{cond}
 use Prim.Native.Nat.{ℕ, _+_, _^_, _<_}
 use lib.Dec.{eqb, ltb, leb}
 use lib.ListN.{length, take, drop, getD}
+use Rattle.radix.specs.declared.Choice.{Choice}
 use Rattle.radix.specs.Digits.{ofBytes}
 use Rattle.protocol.specs.Outcome.{entry}
 use Rattle.protocol.specs.declared.Outcome.{Outcome}
@@ -30,14 +32,14 @@ putAt log at o =
     cond (ltb (length log) (at + length (entry o))) (added log at)
     (added (overlay log at (entry o)) (at + length (entry o)))
 
--- the outcome whose entry a log begins with
-unfoldable pub outcomeIn : List ℕ → Outcome
-outcomeIn l =
+-- the outcome whose entry a log begins with, of a read with this choice
+unfoldable pub outcomeIn : Choice → List ℕ → Outcome
+outcomeIn c l =
     cond (eqb (getD l 0 0) 1) (Shown (getD l 1 0) (record { 0 = ofBytes (take 8 (drop 2 l)) }))
     (cond (eqb (getD l 0 0) 2) (Accepted (getD l 1 0) (getD l 2 0) (record { 0 = ofBytes (take 4 (drop 3 l)) }))
     (cond (eqb (getD l 0 0) 3) (GaveUp (getD l 1 0) (getD l 2 0))
     (cond (eqb (getD l 0 0) 4)
-    (Between (getD l 1 0) (record { 0 = ofBytes (take 8 (drop 2 l)) }) (record { 0 = ofBytes (take 8 (drop 10 l)) }))
+    (Between (getD l 1 0) c (record { 0 = ofBytes (take 8 (drop 2 l)) }) (record { 0 = ofBytes (take 8 (drop 10 l)) }))
     Nothing)))
 
 -- an outcome's numbers fit into the bytes of its entry
@@ -46,4 +48,12 @@ Fits Nothing = Unit {0}
 Fits (Shown r c) = c .0 < 2 ^ 64
 Fits (Accepted r k v) = v .0 < 2 ^ 32
 Fits (GaveUp r k) = Unit {0}
-Fits (Between r low high) = (low .0 < 2 ^ 64) × (high .0 < 2 ^ 64)
+Fits (Between r c low high) = (low .0 < 2 ^ 64) × (high .0 < 2 ^ 64)
+
+-- this is the choice of the read that an outcome between two counts is of; an entry does not say it
+abbrev pub Told : Choice → Outcome → Type 0
+Told c Nothing = Unit {0}
+Told c (Shown r n) = Unit {0}
+Told c (Accepted r k v) = Unit {0}
+Told c (GaveUp r k) = Unit {0}
+Told c (Between r d low high) = d ≡ c

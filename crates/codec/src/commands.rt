@@ -3,10 +3,11 @@ ghost use mathlib.Core.Path.{_≡_};
 ghost use Prim.Native.Nat.{_<_};
 ghost use lib.ListN.{length};
 ghost use Rattle.codec.specs.Decode.{decodeAt};
-ghost use Rattle.codec.specs.Encode.{encode as encodeOf, nine};
+ghost use Rattle.codec.specs.Encode.{beginKind, encode as encodeOf, nine};
 use crate::Decoded;
 use crate::numbers;
 use protocol::Command;
+use radix::Choice;
 use radix::Count;
 
 fn short(x: u8) -> u16
@@ -47,7 +48,7 @@ fn command_at(s: &[u8], at: usize) -> Decoded
             if left < 1 {
                 return Decoded::Unknown;
             }
-            Decoded::Is(Command::BeginCountRead(s[body]), body + 1)
+            Decoded::Is(Command::BeginCountRead(s[body], Choice::Low), body + 1)
         }
         5 => {
             if left < 2 {
@@ -67,6 +68,12 @@ fn command_at(s: &[u8], at: usize) -> Decoded
             }
             Decoded::Is(Command::Cancel(s[body]), body + 1)
         }
+        13 => {
+            if left < 1 {
+                return Decoded::Unknown;
+            }
+            Decoded::Is(Command::BeginCountRead(s[body], Choice::High), body + 1)
+        }
         _ => Decoded::Unknown,
     }
 }
@@ -79,6 +86,16 @@ pub fn decode(s: &[u8], at: usize) -> Decoded
         return Decoded::Over;
     }
     command_at(s, at)
+}
+
+// The kind of the command that begins a count read.
+fn begin_kind(c: Choice) -> u8
+    ensures { λ r. ⌜ r ≡ beginKind c ⌝ }
+{
+    match c {
+        Choice::Low => 4,
+        Choice::High => 13,
+    }
 }
 
 // A command in its bytes, and zeros up to nine: no command has more bytes, and no command begins with a zero.
@@ -98,8 +115,8 @@ pub fn encode(x: Command) -> [u8; 9]
         Command::WriterStep => {
             out[0] = 3;
         }
-        Command::BeginCountRead(who) => {
-            out[0] = 4;
+        Command::BeginCountRead(who, choice) => {
+            out[0] = begin_kind(choice);
             out[1] = who;
         }
         Command::BeginRecordRead(who, attempts) => {

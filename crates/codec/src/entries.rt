@@ -6,6 +6,7 @@ ghost use Rattle.protocol.specs.Outcome.{entry as entryOf};
 ghost use Rattle.codec.specs.Entry.{overlay, added, outcomeIn, putAt};
 use crate::numbers;
 use protocol::Outcome;
+use radix::Choice;
 use radix::Count;
 use radix::Version;
 
@@ -35,6 +36,7 @@ pub fn size(o: Outcome) -> usize
             reader: _,
             low: _,
             high: _,
+            choice: _,
         } => 18,
     }
 }
@@ -66,7 +68,12 @@ fn fill(log: &mut [u8], at: usize, o: Outcome)
             log[at + 1] = reader;
             log[at + 2] = attempts;
         }
-        Outcome::Between { reader, low, high } => {
+        Outcome::Between {
+            reader,
+            low,
+            high,
+            choice: _,
+        } => {
             log[at] = 4;
             log[at + 1] = reader;
             numbers::put_number(log, at + 2, 8, low.0);
@@ -101,9 +108,9 @@ fn half(x: u64) -> u32
     x as u32
 }
 
-// The outcome whose entry a log begins with.
-pub fn outcome(log: [u8; LONGEST]) -> Outcome
-    ensures { λ r. ⌜ r ≡ outcomeIn log ⌝ }
+// The outcome whose entry a log begins with. An entry does not tell the choice of its read, so that is handed in.
+pub fn outcome(log: [u8; LONGEST], choice: Choice) -> Outcome
+    ensures { λ r. ⌜ r ≡ outcomeIn choice log ⌝ }
 {
     let kind = log[0];
     if kind == 1 {
@@ -130,6 +137,7 @@ pub fn outcome(log: [u8; LONGEST]) -> Outcome
             reader: log[1],
             low: Count(numbers::number_at(&log, 2, 8)),
             high: Count(numbers::number_at(&log, 10, 8)),
+            choice: choice,
         };
     }
     Outcome::Nothing

@@ -1,4 +1,4 @@
-// A reader's state in 27 bytes.
+// A reader's state in 28 bytes.
 ghost use mathlib.Core.Path.{_≡_};
 ghost use Prim.Native.Nat.{_+_, _≤_};
 ghost use lib.ListN.{length, take, drop};
@@ -37,42 +37,45 @@ fn digits_at(s: &[u8], at: usize) -> [u8; 16]
 pub fn pack(out: &mut [u8], i: usize, x: Reader)
     ensures { λ r. ⌜ now (out .exit) ≡ packedAt (now (out .entry)) i x ⌝ }
 {
-    if out.len() / 27 <= i {
+    if out.len() / 28 <= i {
         return;
     }
-    let at = i * 27;
+    let at = i * 28;
     let s = x.stage;
     let d = x.digits;
     out[at] = s.kind;
     out[at + 1] = s.allowed;
     out[at + 2] = s.finished;
-    numbers::put_number(out, at + 3, 8, long(s.steps));
-    pasting::paste(out, at + 11, &d);
+    out[at + 3] = s.choice;
+    numbers::put_number(out, at + 4, 8, long(s.steps));
+    pasting::paste(out, at + 12, &d);
 }
 
 // State i of the packed states; an idle one, if it is not there.
 pub fn unpack(s: &[u8], i: usize) -> Reader
     ensures { λ r. ⌜ r ≡ unpackedAt (now (s .entry)) i ⌝ }
 {
-    if s.len() / 27 <= i {
+    if s.len() / 28 <= i {
         return Reader {
             stage: Stage {
                 kind: 0,
                 allowed: 0,
                 finished: 0,
+                choice: 0,
                 steps: 0,
             },
             digits: [0; 16],
         };
     }
-    let at = i * 27;
-    let d = digits_at(s, at + 11);
+    let at = i * 28;
+    let d = digits_at(s, at + 12);
     Reader {
         stage: Stage {
             kind: s[at],
             allowed: s[at + 1],
             finished: s[at + 2],
-            steps: index(numbers::number_at(s, at + 3, 8)),
+            choice: s[at + 3],
+            steps: index(numbers::number_at(s, at + 4, 8)),
         },
         digits: d,
     }

@@ -9,17 +9,19 @@ fn low(x: u64) -> u8 {
     (x % 256) as u8
 }
 
-// A byte of the page; of reader k its kind, attempts allowed and finished, and one of its sixteen digits.
+// A byte of the page; of reader k its kind, attempts allowed and finished, choice, and one of its sixteen
+// digits.
 fn page_or_reader(l: Lent, field: u8, reader: usize, index: usize, x: u64) -> Lent {
     let mut v = l;
     let k = at_most(reader, 15);
     let place = at_most(index, 15);
     match field {
         b'p' => v.page[place] = low(x),
-        b'k' => v.states[27 * k] = low(x),
-        b'a' => v.states[27 * k + 1] = low(x),
-        b'f' => v.states[27 * k + 2] = low(x),
-        b'd' => v.states[27 * k + 11 + place] = low(x),
+        b'k' => v.states[28 * k] = low(x),
+        b'a' => v.states[28 * k + 1] = low(x),
+        b'f' => v.states[28 * k + 2] = low(x),
+        b'c' => v.states[28 * k + 3] = low(x),
+        b'd' => v.states[28 * k + 12 + place] = low(x),
         _ => {}
     }
     v
@@ -36,7 +38,7 @@ fn steps(l: Lent, field: u8, reader: usize, x: u64) -> Lent {
     let mut i: usize = 8;
     while 0 < i {
         i = i - 1;
-        v.states[27 * k + 3 + i] = low(left);
+        v.states[28 * k + 4 + i] = low(left);
         left = left / 256;
     }
     v

@@ -115,7 +115,7 @@ fn of_format(n: Numbers, layout: u16) -> Lent {
         long: places + own + q + size + q,
         writer: fresh::resting(),
         states: [7; 459],
-        kept: product(readers, 27),
+        kept: product(readers, 28),
         buffers: [7; 4400],
         wide: product(readers, size),
         records: size + size,

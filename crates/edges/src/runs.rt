@@ -22,6 +22,15 @@ pub(crate) fn order() {
         no attempts, busy:|r 4 0 5 0 0\n\
         one attempt, busy:|r 4 0 5 0 1\n\
         no such reader, cut:|r 5 2\n\
+        the high end, cut:|r 13\n\
+        the high end, no such reader:|r 13 2\n\
+        the high end, busy:|r 4 0 13 0\n\
+        the high end, busy with itself:|r 13 0 13 0\n\
+        the high end, busy with a record:|r 5 0 1 13 0\n\
+        a record, busy with the high end:|r 13 0 5 0 1\n\
+        the kinds between 07 and 0D:|r 8 0\n\
+        \x20 the last of them:+r 12 0\n\
+        \x20 the kind after 0D:+r 14 0\n\
         a step of no such reader:|r 6 2\n\
         a step of no read:|r 6 1\n\
         crossed copies, no room:|p 0 1;r 4 0 6 0 6 0 6 0 6 0 6 0 6 0\n\
@@ -59,12 +68,14 @@ pub(crate) fn room() {
 }
 
 // Document 01's trap: reader 0 has gathered 099, a write of 150 is carried out, reader 1 shows 150, then reader 0 ends
-// between 99 and 100.
+// between 99 and 100. The entry is the same whichever end was named.
 pub(crate) fn overtaken() {
     each(
         b"\
         099 gathered by reader 0, 150 written:|r 4 0 6 0 6 0 6 0 1 0 0 0 0 0 0 0 150 3 3 3 3 3 3\n\
         \x20 then:+l 29;r 4 1 6 1 6 1 6 1 6 1 6 1 6 1 6 0 6 0 6 0\n\
+        the same with the high end named:|r 13 0 6 0 6 0 6 0 1 0 0 0 0 0 0 0 150 3 3 3 3 3 3\n\
+        \x20 then:+l 29;r 13 1 6 1 6 1 6 1 6 1 6 1 6 1 6 0 6 0 6 0\n\
         ",
     );
 }

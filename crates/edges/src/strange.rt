@@ -74,7 +74,7 @@ pub(crate) fn first_and_last(opening: &[u8], rows: &[u8]) {
     of_reader(opening, rows, 2);
 }
 
-// Of a reader: k, its kind; a, attempts allowed; f, finished; s, steps; d, a digit. Digits 0 to 7 are of the copy read
+// Of a reader: k, its kind; a, attempts allowed; f, finished; c, choice; s, steps; d, a digit. Digits 0 to 7 are of the copy read
 // first (a, or v2), gathered from the left, 8 to 15 of the other (b, or v1), gathered from the right.
 pub(crate) fn readers() {
     first_and_last(
@@ -83,6 +83,7 @@ pub(crate) fn readers() {
         idle, kind 3:                   |q;k 3;e\n\
         idle, attempts allowed:         |q;a 1;e\n\
         idle, attempts finished:        |q;f 1;e\n\
+        idle, a choice:                 |q;c 1;e\n\
         idle, a step:                   |q;s 1;e\n\
         idle, first digit of a:         |q;d 0 1;e\n\
         idle, last of a's eight:        |q;d 7 1;e\n\
@@ -91,6 +92,11 @@ pub(crate) fn readers() {
         count read, kind 3:             |q 4 x;k 3;e\n\
         count read, attempts allowed:   |q 4 x;a 1;e\n\
         count read, attempts finished:  |q 4 x;f 1;e\n\
+        count read, choice 1:           |q 4 x;c 1;e\n\
+        count read, choice 2:           |q 4 x;c 2;e\n\
+        high end named, choice 0:       |q 13 x;c 0;e\n\
+        high end named, choice 255:     |q 13 x;c 255;e\n\
+        high end named, as it is:       |q 13 x 6 x;e\n\
         count read, all steps:          |q 4 x;s 6;e\n\
         count read, all but one:        |q 4 x;s 5;e\n\
         no step, a's first digit:       |q 4 x;d 0 1;e\n\
@@ -115,6 +121,7 @@ pub(crate) fn readers() {
         5 steps, last of b's eight:     |q 4 x 6 x 6 x 6 x 6 x 6 x;d 15 1;e\n\
         record read, kind 3:            |q 5 x 2;k 3;e\n\
         record read, none allowed:      |q 5 x 2;a 0;e\n\
+        record read, a choice:          |q 5 x 2;c 1;e\n\
         record read, one allowed:       |q 5 x 2;a 1;e\n\
         record read, all finished:      |q 5 x 2;f 2;e\n\
         record read, all but one:       |q 5 x 2;f 1;e\n\

@@ -14,7 +14,7 @@ use protocol::Reader;
 use protocol::Writer;
 
 // One command, with the checks of a run before it: the run of its bytes, so that both are one machine code. No log is
-// lent, so refusal 12 is not given.
+// lent, so refusal 12 is not given; and the choice that no entry tells is the reader's, before it is stepped.
 pub fn step(
     readers: &mut [Reader],
     format: Format,
@@ -31,6 +31,9 @@ pub fn step(
     ensures { λ r. ⌜ ((log : List ℕ) → longest ≤ length log → CarriesStep (formOf (now (bases .entry)) format)
         (now (records .entry)) (lent (now (page .entry)) writer (now (readers .entry)) (now (buffers .entry))) x log) ⌝ }
 {
+    let n = readers.len();
+    let i = page::steps(x, n);
+    let c = states::choice_at(readers, i);
     let bytes = codec::encode(x);
     let mut log = [0u8; codec::LONGEST];
     let r = page::run(
@@ -44,5 +47,5 @@ pub fn step(
         &bytes,
         &mut log,
     );
-    page::step_of_run(r, log)
+    page::step_of_run(r, log, c)
 }

@@ -1,11 +1,12 @@
 -- One command, as C and Rust hand it over, and what they are told.
 use mathlib.Core.List.{List}
-use mathlib.Core.Bool.{Bool, cond}
+use mathlib.Core.Bool.{Bool, _||_, cond}
 use Prim.Native.Nat.{ℕ}
 use lib.Dec.{eqb}
+use Rattle.radix.specs.declared.Choice.the-variants.{Low, High}
 use Rattle.protocol.specs.Form.{Form, between}
 use Rattle.protocol.specs.Memory.{Memory}
-use Rattle.protocol.specs.Outcome.{refusalNumber}
+use Rattle.protocol.specs.Outcome.{refusalNumber, choiceNumber}
 use Rattle.protocol.specs.declared.Command.{Command}
 use Rattle.protocol.specs.declared.Command.the-variants.{
   WriteCount,
@@ -29,25 +30,27 @@ use Rattle.lagumtay.specs.declared.stepping.Order.{Order}
 use Rattle.lagumtay.specs.declared.stepping.Entry.{Entry}
 use Rattle.lagumtay.specs.declared.stepping.Ended.{Ended}
 
--- one of document 01's seven kinds
+-- one of document 01's seven kinds, or document 02's 0D
 abbrev pub known : Order → Bool
-known o = between 1 7 (o .kind)
+known o = eqb (o .kind) 0x0D || between 1 7 (o .kind)
 
 unfoldable pub commandOf : Order → Command
 commandOf o =
     cond (eqb (o .kind) 1) (WriteCount (o .count))
     (cond (eqb (o .kind) 2) (WriteRecord (o .index))
     (cond (eqb (o .kind) 3) WriterStep
-    (cond (eqb (o .kind) 4) (BeginCountRead (o .reader))
+    (cond (eqb (o .kind) 4) (BeginCountRead (o .reader) Low)
     (cond (eqb (o .kind) 5) (BeginRecordRead (o .reader) (o .attempts))
     (cond (eqb (o .kind) 6) (ReaderStep (o .reader))
-    (cond (eqb (o .kind) 7) (Cancel (o .reader)) (ReaderStep 255)))))))
+    (cond (eqb (o .kind) 7) (Cancel (o .reader))
+    (cond (eqb (o .kind) 0x0D) (BeginCountRead (o .reader) High) (ReaderStep 255))))))))
 
-abbrev pub entryWith : (kind reader attempts version count low high : ℕ) → Entry
-entryWith k r a v c l h = record {
+abbrev pub entryWith : (kind reader attempts choice version count low high : ℕ) → Entry
+entryWith k r a d v c l h = record {
   kind = k;
   reader = r;
   attempts = a;
+  choice = d;
   version = record { 0 = v };
   count = record { 0 = c };
   low = record { 0 = l };
@@ -55,11 +58,11 @@ entryWith k r a v c l h = record {
 }
 
 unfoldable pub entryOf : Outcome → Entry
-entryOf Nothing = entryWith 0 0 0 0 0 0 0
-entryOf (Shown r c) = entryWith 1 r 0 0 (c .0) 0 0
-entryOf (Accepted r k v) = entryWith 2 r k (v .0) 0 0 0
-entryOf (GaveUp r k) = entryWith 3 r k 0 0 0 0
-entryOf (Between r low high) = entryWith 4 r 0 0 0 (low .0) (high .0)
+entryOf Nothing = entryWith 0 0 0 0 0 0 0 0
+entryOf (Shown r c) = entryWith 1 r 0 0 0 (c .0) 0 0
+entryOf (Accepted r k v) = entryWith 2 r k 0 (v .0) 0 0 0
+entryOf (GaveUp r k) = entryWith 3 r k 0 0 0 0 0
+entryOf (Between r c low high) = entryWith 4 r 0 (choiceNumber c) 0 0 (low .0) (high .0)
 
 -- as the code has it: of an unknown kind, that there is no such reader means that the command is unknown
 unfoldable pub numberOf : Order → Refusal → ℕ

@@ -3,7 +3,7 @@ ghost use mathlib.Core.Path.{_≡_};
 ghost use Rattle.lagumtay.specs.Calls.{packedLeft, packCall, unpackedLeft, unpackCall};
 use protocol::Reader;
 
-// All states into bytes, 27 for each reader. Refusal 2 leaves the bytes as they were.
+// All states into bytes, 28 for each reader. Refusal 2 leaves the bytes as they were.
 #[no_mangle]
 pub extern "C" fn lagumtay_pack(readers: &[Reader], bytes: &mut [u8]) -> u8
     ensures { λ r. ⌜ packedLeft r (now (bytes .exit)) ≡ packCall (now (readers .entry)) (now (bytes .entry)) ⌝ }

@@ -17,10 +17,11 @@ use protocol::Outcome;
 use protocol::Reader;
 use protocol::Refusal;
 use protocol::Writer;
+use radix::Choice;
 use radix::Count;
 use radix::Version;
 
-// A command, by document 01's kinds 1 to 7. A number that its kind does not ask for is not looked at.
+// A command, by document 01's kinds 1 to 7 and document 02's 0D. A number that its kind does not ask for is not looked at.
 #[repr(C)]
 pub struct Order {
     pub kind: u8,
@@ -36,6 +37,7 @@ pub struct Entry {
     pub kind: u8,
     pub reader: u8,
     pub attempts: u8,
+    pub choice: u8,
     pub version: Version,
     pub count: Count,
     pub low: Count,
@@ -52,6 +54,9 @@ pub(crate) struct Ended {
 fn known(o: Order) -> bool
     ensures { λ r. ⌜ r ≡ isKnown o ⌝ }
 {
+    if o.kind == 13 {
+        return true;
+    }
     if o.kind < 1 {
         return false;
     }
@@ -67,22 +72,24 @@ fn command_of(o: Order) -> Command
         1 => Command::WriteCount(Count(o.count.0)),
         2 => Command::WriteRecord(o.index),
         3 => Command::WriterStep,
-        4 => Command::BeginCountRead(o.reader),
+        4 => Command::BeginCountRead(o.reader, Choice::Low),
         5 => Command::BeginRecordRead(o.reader, o.attempts),
         6 => Command::ReaderStep(o.reader),
         7 => Command::Cancel(o.reader),
+        13 => Command::BeginCountRead(o.reader, Choice::High),
         _ => Command::ReaderStep(255),
     }
 }
 
 // An entry whose numbers are all 0.
 fn blank(kind: u8, reader: u8) -> Entry
-    ensures { λ r. ⌜ r ≡ entryWith kind reader 0 0 0 0 0 ⌝ }
+    ensures { λ r. ⌜ r ≡ entryWith kind reader 0 0 0 0 0 0 ⌝ }
 {
     Entry {
         kind: kind,
         reader: reader,
         attempts: 0,
+        choice: 0,
         version: Version(0),
         count: Count(0),
         low: Count(0),
@@ -115,8 +122,14 @@ fn entry_of(o: Outcome) -> Entry
             e.attempts = attempts;
             e
         }
-        Outcome::Between { reader, low, high } => {
+        Outcome::Between {
+            reader,
+            low,
+            high,
+            choice,
+        } => {
             let mut e = blank(4, reader);
+            e.choice = protocol::choice_number(choice);
             e.low = low;
             e.high = high;
             e

@@ -29,7 +29,7 @@ kept p w s b = record { page = p; writer = w; states = s; buffers = b }
 
 -- how many states so many bytes are; none, if they are not the states of at most sixteen readers
 unfoldable pub statesOf : ℕ → ℕ
-statesOf b = cond (leb b 432 && eqb (b % 27) 0) (b / 27) 0
+statesOf b = cond (leb b 448 && eqb (b % 28) 0) (b / 28) 0
 
 -- with the states unpacked, and packed again
 abbrev pub unpackedOf : Kept → Memory

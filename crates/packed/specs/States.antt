@@ -1,4 +1,4 @@
--- Readers' states as bytes, 27 for each, and back.
+-- Readers' states as bytes, 28 for each, and back.
 use mathlib.Core.List.{List, [], _∷_, map}
 use mathlib.Core.Bool.{cond}
 use Prim.Native.Nat.{ℕ, zero, suc, _*_}
@@ -20,7 +20,7 @@ packedLent e l = record { ending = e; bytes = l }
 
 unfoldable pub packAll : List Reader → List ℕ → PackedLent
 packAll rs out =
-    cond (eqb (length out) (length rs * 27)) (packedLent Finished (concat (map packed rs)))
+    cond (eqb (length out) (length rs * 28)) (packedLent Finished (concat (map packed rs)))
     (packedLent (Ending.Refused WrongLength) out)
 
 pub record UnpackedLent : Type 0 where
@@ -33,9 +33,9 @@ unpackedLent e rs = record { ending = e; readers = rs }
 -- the states that so many bytes say
 unfoldable pub unpackFrom : ℕ → List ℕ → List Reader
 unpackFrom zero l = []
-unpackFrom (suc k) l = unpacked (take 27 l) ∷ unpackFrom k (drop 27 l)
+unpackFrom (suc k) l = unpacked (take 28 l) ∷ unpackFrom k (drop 28 l)
 
 unfoldable pub unpackAll : List Reader → List ℕ → UnpackedLent
 unpackAll rs l =
-    cond (eqb (length l) (length rs * 27)) (unpackedLent Finished (unpackFrom (length rs) l))
+    cond (eqb (length l) (length rs * 28)) (unpackedLent Finished (unpackFrom (length rs) l))
     (unpackedLent (Ending.Refused WrongLength) rs)

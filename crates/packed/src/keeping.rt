@@ -1,5 +1,6 @@
 // The states that are kept.
 ghost use mathlib.Core.Path.{_≡_};
+ghost use Rattle.codec.specs.Packed.{unpackedAt};
 ghost use Rattle.page.specs.Carry.{idleReader};
 ghost use Rattle.packed.specs.Kept.{statesOf};
 use protocol::Reader;
@@ -9,13 +10,22 @@ use protocol::Stage;
 pub(crate) fn states_of(bytes: usize) -> usize
     ensures { λ r. ⌜ r ≡ statesOf bytes ⌝ }
 {
-    if 432 < bytes {
+    if 448 < bytes {
         return 0;
     }
-    if bytes % 27 != 0 {
+    if bytes % 28 != 0 {
         return 0;
     }
-    bytes / 27
+    bytes / 28
+}
+
+// The number of the choice of state i; 0, that of none, if it is not there.
+pub(crate) fn choice_at(states: &[u8], i: usize) -> u8
+    ensures { λ r. ⌜ r ≡ unpackedAt (now (states .entry)) i .stage .choice ⌝ }
+{
+    let r = codec::unpack(states, i);
+    let s = r.stage;
+    s.choice
 }
 
 pub(crate) fn idle() -> Reader
@@ -26,6 +36,7 @@ pub(crate) fn idle() -> Reader
             kind: 0,
             allowed: 0,
             finished: 0,
+            choice: 0,
             steps: 0,
         },
         digits: [0; 16],

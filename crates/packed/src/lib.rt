@@ -1,4 +1,4 @@
-// Readers' states as bytes, 27 for each: packed, unpacked, and the calls of crate `page` for programs that keep them so.
+// Readers' states as bytes, 28 for each: packed, unpacked, and the calls of crate `page` for programs that keep them so.
 mod keeping;
 mod opening;
 mod packing;

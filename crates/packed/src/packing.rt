@@ -1,4 +1,4 @@
-// Readers' states as bytes, 27 for each, and back.
+// Readers' states as bytes, 28 for each, and back.
 ghost use mathlib.Core.Path.{_≡_};
 ghost use mathlib.Core.Bool.{cond};
 ghost use Prim.Native.Nat.{_*_};
@@ -11,17 +11,17 @@ use protocol::Refusal;
 
 // Are these bytes as many as the states of so many readers take?
 fn fits(readers: usize, bytes: usize) -> bool
-    ensures { λ r. ⌜ r ≡ eqb bytes (readers * 27) ⌝ }
+    ensures { λ r. ⌜ r ≡ eqb bytes (readers * 28) ⌝ }
 {
-    if bytes % 27 != 0 {
+    if bytes % 28 != 0 {
         return false;
     }
-    bytes / 27 == readers
+    bytes / 28 == readers
 }
 
 // So many states are packed or unpacked: all or none.
 pub(crate) fn states(readers: usize, bytes: usize) -> usize
-    ensures { λ r. ⌜ r ≡ cond (eqb bytes (readers * 27)) readers 0 ⌝ }
+    ensures { λ r. ⌜ r ≡ cond (eqb bytes (readers * 28)) readers 0 ⌝ }
 {
     if fits(readers, bytes) {
         return readers;
@@ -31,7 +31,7 @@ pub(crate) fn states(readers: usize, bytes: usize) -> usize
 
 // Refusal 2, unless the bytes are as many.
 pub(crate) fn ending(readers: usize, bytes: usize) -> Ending
-    ensures { λ r. ⌜ r ≡ cond (eqb bytes (readers * 27)) Ending.Finished (Ending.Refused WrongLength) ⌝ }
+    ensures { λ r. ⌜ r ≡ cond (eqb bytes (readers * 28)) Ending.Finished (Ending.Refused WrongLength) ⌝ }
 {
     if fits(readers, bytes) {
         return Ending::Finished;

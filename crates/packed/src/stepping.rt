@@ -2,6 +2,7 @@
 ghost use mathlib.Core.Path.{_≡_};
 ghost use Rattle.protocol.specs.Form.{formOf};
 ghost use Rattle.packed.specs.Kept.{kept, steppedKept, stepKept};
+use crate::keeping;
 use crate::running;
 use page::Stepped;
 use protocol::Command;
@@ -23,6 +24,8 @@ pub fn step(
         ≡ stepKept (formOf (now (bases .entry)) format) (now (records .entry))
         (kept (now (page .entry)) writer (now (states .entry)) (now (buffers .entry))) x ⌝ }
 {
+    let i = page::steps(x, 16);
+    let c = keeping::choice_at(states, i);
     let bytes = codec::encode(x);
     let mut log = [0u8; codec::LONGEST];
     let r = running::run(
@@ -36,5 +39,5 @@ pub fn step(
         &bytes,
         &mut log,
     );
-    page::step_of_run(r, log)
+    page::step_of_run(r, log, c)
 }

@@ -31,14 +31,14 @@ abbrev pub readsOn : Form → Stage → Command → Bool
 readsOn F s (WriteCount c) = false
 readsOn F s (WriteRecord i) = false
 readsOn F s WriterStep = false
-readsOn F s (BeginCountRead r) = false
+readsOn F s (BeginCountRead r c) = false
 readsOn F s (BeginRecordRead r a) = false
 readsOn F s (ReaderStep r) = advancing F s
 readsOn F s (Cancel r) = false
 
 -- the same read, after so many steps
 abbrev pub onward : Stage → (steps : ℕ) → Stage
-onward s k = stageAt (s .kind) (s .allowed) (s .finished) k
+onward s k = stageAt (s .kind) (s .allowed) (s .finished) (s .choice) k
 
 -- the digit d of step k of an attempt: a byte of the record is put into the buffer, any other with the digits
 abbrev pub digitsWith : Form → (k d : ℕ) → List ℕ → List ℕ

@@ -9,7 +9,7 @@ use Rattle.radix.specs.declared.Count.{Count}
 use Rattle.protocol.specs.Form.{Form, goodForm}
 use Rattle.protocol.specs.Command.{Decoded as ProtocolDecoded, over, unknown, command, decode}
 use Rattle.protocol.specs.Memory.{Memory, goodLengths}
-use Rattle.protocol.specs.Load.{validMemory}
+use Rattle.protocol.specs.Load.{choiceOf, validMemory}
 use Rattle.protocol.specs.Run.{openPage, Run, Event, run, RunOver, runs, left, logged, logAfter}
 use Rattle.protocol.specs.History.{history, fresh}
 use Rattle.protocol.specs.Demand.{acceptsOf, Demand3, Continued}
@@ -70,14 +70,14 @@ startLent F S L =
 abbrev pub steppedLent : Stepped → (page : List ℕ) → List Reader → (buffers : List ℕ) → After
 steppedLent s p rs b = after (s .answer) (record { page = p; writer = s .writer; readers = rs; buffers = b })
 
--- what the run of one command and zeros told
+-- what the run of one command and zeros told, where the number of the reader's choice is c
 unfoldable pub answerOf : Ending → Answer
 answerOf Finished = Done Nothing
 answerOf (Ending.Refused why) = Refused why
 
-abbrev pub steppedOf : Ran → (log : List ℕ) → Stepped
-steppedOf r log =
-    record { answer = cond (eqb (r .done) 1) (Done (outcomeIn log)) (answerOf (r .ending)); writer = r .writer }
+abbrev pub steppedOf : Ran → (log : List ℕ) → (c : ℕ) → Stepped
+steppedOf r log c =
+    record { answer = cond (eqb (r .done) 1) (Done (outcomeIn (choiceOf c) log)) (answerOf (r .ending)); writer = r .writer }
 
 abbrev pub anyRoom : ℕ
 anyRoom = 18446744073709551615

@@ -22,5 +22,5 @@ pub record Held (F : Form) (x : Reader) : Type 0 where
 -- the digit that a reader is about to gather is below its base; a byte of the record may be anything
 abbrev pub Fits : Form → Reading → ℕ → Type 0
 Fits F idle d = Unit {0}
-Fits F (ofCount ds) d = d < getD (countBases F) (countSteps F - suc (length ds)) 0
+Fits F (ofCount c ds) d = d < getD (countBases F) (countSteps F - suc (length ds)) 0
 Fits F (ofRecord a f s ds) d = (s < F .q) ⊎ (F .q + F .n ≤ s) → d < F .base

@@ -13,7 +13,7 @@ use Rattle.protocol.specs.State.{Reading, idle, ofRecord, busyReading}
 use Rattle.protocol.specs.Step.{Gathered, gathered, copyA, copyB, endCount, endAttempt, gather}
 use Rattle.protocol.specs.Outcome.{entry}
 use Rattle.protocol.specs.Memory.{stageAt, readerOf, storedReading}
-use Rattle.protocol.specs.Load.{loadReading}
+use Rattle.protocol.specs.Load.{choiceOf, loadReading}
 use Rattle.protocol.specs.declared.Outcome.{Outcome}
 use Rattle.protocol.specs.declared.Outcome.the-variants.{Nothing, GaveUp}
 use Rattle.protocol.specs.declared.Refusal.the-variants.{Busy, NothingPending, NoSuch, LogFull}
@@ -100,7 +100,7 @@ pub record Whole (F : Form) (digits : List ℕ) : Type 0 where
 abbrev pub countEnded : Form → (who room : ℕ) → Stage → (last : ℕ) → List ℕ → List ℕ → Left
 countEnded F who room s last digits b =
     onGathered F room (before s last digits) b
-    (endCount F who b (copyOne F digits) (copyTwo F digits) (compare (copyOne F digits) (copyTwo F digits)))
+    (endCount F who (choiceOf (s .choice)) b (copyOne F digits) (copyTwo F digits) (compare (copyOne F digits) (copyTwo F digits)))
 
 -- the same of an attempt
 pub record WholeAttempt (F : Form) (s : Stage) (digits b : List ℕ) : Type 0 where
@@ -127,7 +127,7 @@ AttemptEnds F who room s digits b y =
 abbrev pub restarted : Stage → (used : ℕ) → List ℕ → Left
 restarted s used b =
     left (Done Nothing)
-    (readerOf (stageAt (s .kind) (s .allowed) used 0) (replicate 16 0)) b
+    (readerOf (stageAt (s .kind) (s .allowed) used 0 0) (replicate 16 0)) b
 
 abbrev pub gaveUp : Form → (who used room : ℕ) → Reader → List ℕ → Left
 gaveUp F who used room x b =

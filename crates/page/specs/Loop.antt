@@ -100,7 +100,7 @@ abbrev pub stepperOf : Command → (none : ℕ) → ℕ
 stepperOf (WriteCount c) none = none
 stepperOf (WriteRecord i) none = none
 stepperOf WriterStep none = none
-stepperOf (BeginCountRead r) none = none
+stepperOf (BeginCountRead r c) none = none
 stepperOf (BeginRecordRead r a) none = none
 stepperOf (ReaderStep r) none = r
 stepperOf (Cancel r) none = none

@@ -34,7 +34,7 @@ unfoldable pub whoseOf : Command → (none : ℕ) → ℕ
 whoseOf (WriteCount c) none = none
 whoseOf (WriteRecord i) none = none
 whoseOf WriterStep none = none
-whoseOf (BeginCountRead r) none = r
+whoseOf (BeginCountRead r c) none = r
 whoseOf (BeginRecordRead r a) none = r
 whoseOf (ReaderStep r) none = r
 whoseOf (Cancel r) none = r
@@ -44,8 +44,8 @@ unfoldable pub reads : Form → (page : List ℕ) → (who : ℕ) → Reading �
 reads F page who y b (WriteCount c) = Gathered.refused NoSuch
 reads F page who y b (WriteRecord i) = Gathered.refused NoSuch
 reads F page who y b WriterStep = Gathered.refused NoSuch
-reads F page who y b (BeginCountRead r) =
-    cond (busyReading y) (Gathered.refused Busy) (gathered (ofCount []) b Nothing)
+reads F page who y b (BeginCountRead r c) =
+    cond (busyReading y) (Gathered.refused Busy) (gathered (ofCount c []) b Nothing)
 reads F page who y b (BeginRecordRead r a) =
     cond (eqb a 0) (Gathered.refused NoSuch)
     (cond (busyReading y) (Gathered.refused Busy) (gathered (ofRecord a 0 0 []) b Nothing))

@@ -69,7 +69,7 @@ abbrev pub writesOn : Command → Writer → Bool
 writesOn (WriteCount c) w = false
 writesOn (WriteRecord i) w = false
 writesOn WriterStep w = not (eqb (w .kind) 0)
-writesOn (BeginCountRead r) w = false
+writesOn (BeginCountRead r c) w = false
 writesOn (BeginRecordRead r a) w = false
 writesOn (ReaderStep r) w = false
 writesOn (Cancel r) w = false

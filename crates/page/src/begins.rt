@@ -10,16 +10,17 @@ use crate::finishing;
 use crate::finishing::Taken;
 use protocol::Refusal;
 use protocol::Stage;
+use radix::Choice;
 
-// A count read begins.
-pub(crate) fn begin_count(stage: Stage) -> Taken
+// A count read begins, with a choice.
+pub(crate) fn begin_count(stage: Stage, choice: Choice) -> Taken
     ensures { λ r. ⌜ ((F : Form) (digits : List ℕ) → Held F (readerOf stage digits) →
-        Leaves r digits (begun F (ofCount []) (readerOf stage digits))) ⌝ }
+        Leaves r digits (begun F (ofCount choice []) (readerOf stage digits))) ⌝ }
 {
     if stage.kind != 0 {
         return finishing::refused(Refusal::Busy, stage);
     }
-    finishing::quiet(1, 0, 0)
+    finishing::quiet(1, 0, 0, protocol::choice_number(choice))
 }
 
 // A record read begins, if it may take an attempt.
@@ -33,7 +34,7 @@ pub(crate) fn begin_record(stage: Stage, attempts: u8) -> Taken
     if stage.kind != 0 {
         return finishing::refused(Refusal::Busy, stage);
     }
-    finishing::quiet(2, attempts, 0)
+    finishing::quiet(2, attempts, 0, 0)
 }
 
 // A read is dropped by its owner.
@@ -45,5 +46,5 @@ pub(crate) fn drop_read(stage: Stage, digits: &mut [u8]) -> Taken
         return finishing::refused(Refusal::NothingPending, stage);
     }
     fresh::zero(digits);
-    finishing::quiet(0, 0, 0)
+    finishing::quiet(0, 0, 0, 0)
 }

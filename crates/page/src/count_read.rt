@@ -55,10 +55,12 @@ fn end_count(
             finishing::finish(stage, digits, last, o, room)
         }
         Ends::Between { low, high } => {
+            let c = protocol::choice_of(stage.choice);
             let o = Outcome::Between {
                 reader: who,
                 low: low,
                 high: high,
+                choice: c,
             };
             finishing::finish(stage, digits, last, o, room)
         }

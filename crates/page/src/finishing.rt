@@ -19,20 +19,21 @@ pub(crate) struct Taken {
 
 // A reader's stage when it has no read.
 pub(crate) fn idle() -> Stage
-    ensures { λ r. ⌜ r ≡ record { kind = 0; allowed = 0; finished = 0; steps = 0 } ⌝ }
+    ensures { λ r. ⌜ r ≡ record { kind = 0; allowed = 0; finished = 0; choice = 0; steps = 0 } ⌝ }
 {
     Stage {
         kind: 0,
         allowed: 0,
         finished: 0,
+        choice: 0,
         steps: 0,
     }
 }
 
 // Nothing to tell: a read, or none, that has taken no step. Its stage is made here, for a stage handed in by value would be
 // copied with its padding.
-pub(crate) fn quiet(kind: u8, allowed: u8, finished: u8) -> Taken
-    ensures { λ r. ⌜ r ≡ record { answer = Answer.Done Outcome.Nothing; stage = stageAt kind allowed finished 0 } ⌝ }
+pub(crate) fn quiet(kind: u8, allowed: u8, finished: u8, choice: u8) -> Taken
+    ensures { λ r. ⌜ r ≡ record { answer = Answer.Done Outcome.Nothing; stage = stageAt kind allowed finished choice 0 } ⌝ }
 {
     Taken {
         answer: Answer::Done(Outcome::Nothing),
@@ -40,6 +41,7 @@ pub(crate) fn quiet(kind: u8, allowed: u8, finished: u8) -> Taken
             kind: kind,
             allowed: allowed,
             finished: finished,
+            choice: choice,
             steps: 0,
         },
     }
@@ -59,7 +61,7 @@ pub(crate) fn refused(why: Refusal, stage: Stage) -> Taken
 fn over(o: Outcome) -> Taken
     ensures { λ r. ⌜ r ≡ record {
       answer = Answer.Done o;
-      stage = record { kind = 0; allowed = 0; finished = 0; steps = 0 };
+      stage = record { kind = 0; allowed = 0; finished = 0; choice = 0; steps = 0 };
     } ⌝ }
 {
     Taken {

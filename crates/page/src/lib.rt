@@ -21,6 +21,7 @@ use protocol::Refusal;
 use protocol::Writer;
 pub use running::run;
 pub use stepping::step_of_run;
+pub use turning::steps;
 
 // What a run answers: commands carried out, bytes of the commands taken, bytes written into the log, how it ended; and
 // the writer as it leaves it.

@@ -153,8 +153,8 @@ pub(crate) fn read_at(
         (readerOf stage (now (digits .entry))) (now (buffers .entry)) x) ⌝ }
 {
     match x {
-        Command::BeginCountRead(_) => {
-            return begins::begin_count(stage);
+        Command::BeginCountRead(_, choice) => {
+            return begins::begin_count(stage, choice);
         }
         Command::BeginRecordRead(_, attempts) => {
             return begins::begin_record(stage, attempts);

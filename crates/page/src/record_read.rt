@@ -40,7 +40,7 @@ fn again(stage: Stage, digits: &mut [u8], used: u8) -> Taken
     ensures { λ r. ⌜ Leaves r (now (digits .exit)) (restarted stage used) ⌝ }
 {
     fresh::zero(digits);
-    finishing::quiet(stage.kind, stage.allowed, used)
+    finishing::quiet(stage.kind, stage.allowed, used, 0)
 }
 
 // The last attempt failed: the buffer becomes zeros, if the log has room.

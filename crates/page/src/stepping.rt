@@ -18,14 +18,15 @@ fn answer(e: Ending) -> Answer
 }
 
 // What the run of one command and zeros told: if the command was carried out, its entry is all of the log, and what
-// the zeros after it answered is nothing to the caller.
-pub fn step_of_run(r: Ran, log: [u8; codec::LONGEST]) -> Stepped
-    ensures { λ x. ⌜ x ≡ steppedOf r log ⌝ }
+// the zeros after it answered is nothing to the caller. No entry tells the choice, so that is
+// the stepped reader's, as a number.
+pub fn step_of_run(r: Ran, log: [u8; codec::LONGEST], choice: u8) -> Stepped
+    ensures { λ x. ⌜ x ≡ steppedOf r log choice ⌝ }
 {
     let w = r.writer;
     if r.done == 1 {
         return Stepped {
-            answer: Answer::Done(codec::outcome(log)),
+            answer: Answer::Done(codec::outcome(log, protocol::choice_of(choice))),
             writer: w,
         };
     }

@@ -13,7 +13,7 @@ ghost use Rattle.codec.specs.Decode.{decodeAt};
 ghost use Rattle.page.specs.declared.Answer.the-variants.{Done};
 ghost use Rattle.page.specs.Pen.{Knows};
 ghost use Rattle.page.specs.Writes.{WriteReady};
-ghost use Rattle.page.specs.Loop.{stopped as stoppedOf, entered, enterOf, whoseIn, stepperIn, readsOnIn, writesOnIn, oneTurnBy, readTurn, TurnReady, penTurnBy, writeTurn, NoReaderIn};
+ghost use Rattle.page.specs.Loop.{stopped as stoppedOf, entered, enterOf, whoseIn, stepperOf, stepperIn, readsOnIn, writesOnIn, oneTurnBy, readTurn, TurnReady, penTurnBy, writeTurn, NoReaderIn};
 use crate::looping;
 use crate::looping::Standing;
 use crate::pen::Carried;
@@ -54,7 +54,7 @@ pub(crate) fn whose(d: Decoded, none: usize) -> usize
         Command::WriteCount(_) => none,
         Command::WriteRecord(_) => none,
         Command::WriterStep => none,
-        Command::BeginCountRead(who) => wide(who),
+        Command::BeginCountRead(who, _) => wide(who),
         Command::BeginRecordRead(who, _) => wide(who),
         Command::ReaderStep(who) => wide(who),
         Command::Cancel(who) => wide(who),
@@ -73,6 +73,21 @@ pub(crate) fn stepper(commands: &[u8], at: usize, none: usize) -> usize
         return none;
     }
     wide(commands[at + 1])
+}
+
+// The same of a command: the reader that it steps, or `none`.
+pub fn steps(x: Command, none: usize) -> usize
+    ensures { λ r. ⌜ r ≡ stepperOf x none ⌝ }
+{
+    match x {
+        Command::WriteCount(_) => none,
+        Command::WriteRecord(_) => none,
+        Command::WriterStep => none,
+        Command::BeginCountRead(_, _) => none,
+        Command::BeginRecordRead(_, _) => none,
+        Command::ReaderStep(who) => wide(who),
+        Command::Cancel(_) => none,
+    }
 }
 
 // Is the next step of a pending write at this place?
@@ -94,6 +109,7 @@ fn fields(s: Stage) -> Stage
         kind: s.kind,
         allowed: s.allowed,
         finished: s.finished,
+        choice: s.choice,
         steps: s.steps,
     }
 }
@@ -120,20 +136,19 @@ pub(crate) fn read_turn(
         ≡ readTurn (formOf (now (bases .entry)) format) (now (page .entry)) i (readerOf stage (now (digits .entry)))
         (now (buffers .entry)) (now (log .entry)) d s) ⌝ }
 {
-    let from = fields(stage);
     let Decoded::Is(x, next) = d else {
         return ReadTurn {
             standing: looping::stopped(s, Refusal::UnknownCommand),
-            stage: from,
+            stage: fields(stage),
         };
     };
     let room = log.len() - s.written;
-    let t = reading::read_at(i, from, digits, format, bases, page, buffers, x, room);
+    let t = reading::read_at(i, stage, digits, format, bases, page, buffers, x, room);
     let a = t.answer;
     let after = t.stage;
     ReadTurn {
         standing: looping::enter(log, s, next, a),
-        stage: after,
+        stage: fields(after),
     }
 }
 

@@ -48,7 +48,7 @@ pub(crate) fn write(
             return write_begin::begin_record(format, bases, page, records, p, i);
         }
         Command::WriterStep
-        | Command::BeginCountRead(_)
+        | Command::BeginCountRead(_, _)
         | Command::BeginRecordRead(_, _)
         | Command::ReaderStep(_)
         | Command::Cancel(_) => {

@@ -40,7 +40,7 @@ pub fn print_run(input: &[u8], more: bool, to: i32) {
     let kept = s.states;
     let wide = s.buffers;
     let mut page = [7u8; 280];
-    let mut states = [7u8; 432];
+    let mut states = [7u8; 448];
     let mut buffers = [7u8; 4096];
     print_lines(
         input,

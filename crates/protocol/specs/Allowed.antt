@@ -39,7 +39,7 @@ versionDigits F s = min s (F .q) + (s - (F .q + F .n))
 -- a count read's digits, latest first, are the last ones of the writing order
 unfoldable pub allowedReading : Form → Reading → Bool
 allowedReading F idle = true
-allowedReading F (ofCount ds) =
+allowedReading F (ofCount c ds) =
     ltb (length ds) (countSteps F) && valid (drop (countSteps F - length ds) (countBases F)) ds
 allowedReading F (ofRecord a f s ds) =
     ltb f a && ltb s (recordSteps F) && eqb (length ds) (versionDigits F s) && every (λ d. ltb d (F .base)) ds

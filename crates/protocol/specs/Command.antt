@@ -1,10 +1,11 @@
--- Commands as bytes, document 01's slips: one byte of kind, then a body whose length the kind fixes.
+-- Commands as bytes, document 01's slips and document 02's 0D: one byte of kind, then a body whose length the kind fixes.
 use mathlib.Core.List.{List, [], _∷_}
 use mathlib.Core.Bool.{cond}
 use Prim.Native.Nat.{ℕ}
 use lib.Dec.{eqb, leb}
 use lib.ListN.{length, take, drop, getD}
 use Rattle.radix.specs.Digits.{ofBytes}
+use Rattle.radix.specs.declared.Choice.the-variants.{Low, High}
 use Rattle.protocol.specs.declared.Command.{Command}
 use Rattle.protocol.specs.declared.Command.the-variants.{
   WriteCount,
@@ -32,8 +33,9 @@ decode (kind ∷ s) =
     cond (eqb kind 1) (withBody 8 s (WriteCount (record { 0 = ofBytes (take 8 s) })))
     (cond (eqb kind 2) (withBody 2 s (WriteRecord (ofBytes (take 2 s))))
     (cond (eqb kind 3) (withBody 0 s WriterStep)
-    (cond (eqb kind 4) (withBody 1 s (BeginCountRead (getD s 0 0)))
+    (cond (eqb kind 4) (withBody 1 s (BeginCountRead (getD s 0 0) Low))
     (cond (eqb kind 5) (withBody 2 s (BeginRecordRead (getD s 0 0) (getD s 1 0)))
     (cond (eqb kind 6) (withBody 1 s (ReaderStep (getD s 0 0)))
     (cond (eqb kind 7) (withBody 1 s (Cancel (getD s 0 0)))
-    unknown))))))
+    (cond (eqb kind 0x0D) (withBody 1 s (BeginCountRead (getD s 0 0) High))
+    unknown)))))))

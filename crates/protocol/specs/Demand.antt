@@ -9,7 +9,8 @@ use lib.ListN.{length, take, getD, replicate}
 use Rattle.radix.specs.declared.Count.{Count}
 use Rattle.radix.specs.declared.Version.{Version}
 use Rattle.radix.specs.declared.Place.{Place}
-use Rattle.radix.specs.Copies.{Choice, shown}
+use Rattle.radix.specs.declared.Choice.{Choice}
+use Rattle.radix.specs.Copies.{shown}
 use Rattle.protocol.specs.Lists.{concat, All, Both, Pairwise, Any}
 use Rattle.protocol.specs.Form.{Form, countSteps, recordSteps}
 use Rattle.protocol.specs.State.{
@@ -110,14 +111,17 @@ pub record InSpan (size : ℕ) (c₀ : Count) (cs : List (Write Count)) (x : Cou
 abbrev pub Begun : {A : Type 0} → ℕ → A → List (Write A) → A → Type 0
 Begun t a₀ ps a = (a ≡ a₀) ⊎ Any (λ p. (p .what ≡ a) × (begunBefore t p ≡ true)) ps
 
--- how a finished count read may end: with a count that somebody wrote, or with two ends, the low one below the high one
+-- how a finished count read may end: with a count that somebody wrote, which is shown under either choice; or with two
+-- ends, the low one below the high one, and the choice of the command that began the read. Whichever is chosen, the count
+-- shown lies in the span; nobody need have written it.
 abbrev pub CountEnds : ℕ → Count → List (Write Count) → CountRead → Outcome → Type 0
 CountEnds size c₀ cs x Nothing = ⊥
 CountEnds size c₀ cs x (Shown r c) = (r ≡ x .reader) × InSpan size c₀ cs x c × Begun (lastOf (x .steps)) c₀ cs c
 CountEnds size c₀ cs x (Accepted r k v) = ⊥
 CountEnds size c₀ cs x (GaveUp r k) = ⊥
-CountEnds size c₀ cs x (Between r low high) =
-    (r ≡ x .reader) × (low .0 < high .0) × ((choice : Choice) → InSpan size c₀ cs x (shown choice low high))
+CountEnds size c₀ cs x (Between r choice low high) =
+    (r ≡ x .reader) × (choice ≡ x .choice) × (low .0 < high .0)
+    × ((either : Choice) → InSpan size c₀ cs x (shown either low high))
 
 -- (C) EVERY UNDISTURBED ATTEMPT IS ACCEPTED
 
@@ -202,7 +206,7 @@ Ends F story y (Accepted r k v) = (y .accepted ≡ true) × (r ≡ y .reader) ×
 Ends F story y (GaveUp r k) =
     (y .accepted ≡ false) × (r ≡ y .reader) × Used F y k × (k ≡ y .allowed)
     × (bufferAt story (lastOf (y .steps)) r ≡ replicate (F .n) 0)
-Ends F story y (Between r low high) = ⊥
+Ends F story y (Between r choice low high) = ⊥
 
 -- an outcome is that of a read of the history
 abbrev pub Explained : History → ℕ → Outcome → Type 0
@@ -210,7 +214,7 @@ Explained h t Nothing = Unit {0}
 Explained h t (Shown r c) = Any (λ x. (x .reader ≡ r) × (lastOf (x .steps) ≡ t)) (h .countReads)
 Explained h t (Accepted r k v) = Any (λ y. (y .reader ≡ r) × (lastOf (y .steps) ≡ t)) (h .attempts)
 Explained h t (GaveUp r k) = Any (λ y. (y .reader ≡ r) × (lastOf (y .steps) ≡ t)) (h .attempts)
-Explained h t (Between r low high) = Any (λ x. (x .reader ≡ r) × (lastOf (x .steps) ≡ t)) (h .countReads)
+Explained h t (Between r choice low high) = Any (λ x. (x .reader ≡ r) × (lastOf (x .steps) ≡ t)) (h .countReads)
 
 -- places count down to 1, latest first
 abbrev pub Placing : List (Write Placed) → Type 0
@@ -238,7 +242,8 @@ pub data Writes : Writing → Pending → List (Write Count) → List (Write Pla
 pub data Reads (F : Form) : Reading → Read → Type 0 where
   idles : Reads F idle noRead
   readsCount :
-      {ds ts : List ℕ} → length ts ≡ length ds → length ds < countSteps F → Reads F (ofCount ds) (countRead ts)
+      {choice : Choice} {ds ts : List ℕ} → length ts ≡ length ds → length ds < countSteps F →
+      Reads F (ofCount choice ds) (countRead choice ts)
   readsRecord :
       {a f s : ℕ} {ds es ts : List ℕ} → length es ≡ f * recordSteps F → length ts ≡ s → s < recordSteps F → f < a →
       Reads F (ofRecord a f s ds) (recordRead a es ts)

@@ -6,7 +6,9 @@ use lib.ListN.{replicate}
 use Rattle.radix.specs.declared.Count.{Count}
 use Rattle.radix.specs.declared.Version.{Version}
 use Rattle.radix.specs.Digits.{digits}
-use Rattle.radix.specs.Copies.{compare, Choice, shown, chosen}
+use Rattle.radix.specs.declared.Choice.{Choice}
+use Rattle.radix.specs.declared.Choice.the-variants.{Low, High}
+use Rattle.radix.specs.Copies.{compare, shown}
 use Rattle.radix.specs.Answers.{digitOf}
 use Rattle.radix.specs.declared.Fault.the-variants.{TooLarge}
 use Rattle.radix.specs.declared.Digit.{Digit}
@@ -32,21 +34,25 @@ clock = withBases (24 ∷ 60 ∷ [])
 abbrev pub single : Form
 single = withBases (10 ∷ [])
 
--- the end of a count read that gathered the copies a and b
-abbrev pub countEnd : Form → List ℕ → List ℕ → Gathered
-countEnd F a b = endCount F 0 (0 ∷ []) a b (compare a b)
+-- the end of a count read that was begun with a choice and gathered the copies a and b
+abbrev pub countEnd : Form → Choice → List ℕ → List ℕ → Gathered
+countEnd F c a b = endCount F 0 c (0 ∷ []) a b (compare a b)
 
 -- it ends as an outcome, and the reader is idle then
-abbrev pub EndsAs : Form → List ℕ → List ℕ → Outcome → Type 0
-EndsAs F a b o = countEnd F a b ≡ Gathered.gathered idle (0 ∷ []) o
+abbrev pub EndsAs : Form → Choice → List ℕ → List ℕ → Outcome → Type 0
+EndsAs F c a b o = countEnd F c a b ≡ Gathered.gathered idle (0 ∷ []) o
 
--- the copies part; the count shown is h, as in document 01's row, and beside it the low end is l
-pub record ShowsEnds (F : Form) (a b : List ℕ) (l h : Count) : Type 0 where
+-- the copies part, and the count shown is x
+pub record Shows (F : Form) (c : Choice) (a b : List ℕ) (x : Count) : Type 0 where
   pub low : Count
   pub high : Count
-  pub ends : EndsAs F a b (Between 0 low high)
-  pub row : shown chosen low high ≡ h
-  pub beside : shown Choice.low low high ≡ l
+  pub choice : Choice
+  pub ends : EndsAs F c a b (Between 0 choice low high)
+  pub row : shown choice low high ≡ x
+
+-- of a read that names the high end it is h, as in document 01's row; of one that names none it is l
+abbrev pub ShowsEnds : Form → (a b : List ℕ) → (l h : Count) → Type 0
+ShowsEnds F a b l h = Shows F High a b h × Shows F Low a b l
 
 -- the writer rests, and the versions stand at v
 abbrev pub versionsAt : Version → State
@@ -63,9 +69,9 @@ pub record Table : Type 0 where
   -- 11:57 and 12:04 show 11:59 or 12:00; 11:57 or 11:59; the equal ones themselves
   pub hour : ShowsEnds clock (11 ∷ 57 ∷ []) (12 ∷ 4 ∷ []) (record { 0 = 719 }) (record { 0 = 720 })
   pub minute : ShowsEnds clock (11 ∷ 57 ∷ []) (11 ∷ 59 ∷ []) (record { 0 = 717 }) (record { 0 = 719 })
-  pub equal : EndsAs clock (11 ∷ 57 ∷ []) (11 ∷ 57 ∷ []) (Shown 0 (record { 0 = 717 }))
+  pub equal : (c : Choice) → EndsAs clock c (11 ∷ 57 ∷ []) (11 ∷ 57 ∷ []) (Shown 0 (record { 0 = 717 }))
   pub crossed :
-      (countEnd clock (12 ∷ 4 ∷ []) (11 ∷ 57 ∷ []) ≡ Gathered.refused CopiesCrossed)
+      ((c : Choice) → countEnd clock c (12 ∷ 4 ∷ []) (11 ∷ 57 ∷ []) ≡ Gathered.refused CopiesCrossed)
       × (refusalNumber CopiesCrossed ≡ 10)
   pub one-place : ShowsEnds single (5 ∷ []) (7 ∷ []) (record { 0 = 5 }) (record { 0 = 7 })
   pub nine : (digits (single .bases) 9 ≡ 9 ∷ []) × (digitOf (single .bases) 0 9 ≡ Digit.Is 9)

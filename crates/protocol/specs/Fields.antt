@@ -46,12 +46,15 @@ pub record SixteenOk (bases : List ℕ) (w : ℕ) (digits : List ℕ) (g : ℕ) 
 
 -- idle, a count read, a record read; no other kind passes
 pub data ReaderOk (F : Form) (x : Reader) : Type 0 where
-  kind0 : x .stage .kind ≡ 0 → x .stage .allowed ≡ 0 → x .stage .finished ≡ 0 → x .stage .steps ≡ 0 → Zeros (x .digits) → ReaderOk F x
+  kind0 :
+      x .stage .kind ≡ 0 → x .stage .allowed ≡ 0 → x .stage .finished ≡ 0 → x .stage .choice ≡ 0 → x .stage .steps ≡ 0 →
+      Zeros (x .digits) → ReaderOk F x
   kind1 :
-      x .stage .kind ≡ 1 → x .stage .allowed ≡ 0 → x .stage .finished ≡ 0 → x .stage .steps < countSteps F →
+      x .stage .kind ≡ 1 → x .stage .allowed ≡ 0 → x .stage .finished ≡ 0 → x .stage .choice ≤ 1 →
+      x .stage .steps < countSteps F →
       SixteenOk (F .bases) (own F) (x .digits) (x .stage .steps) → ReaderOk F x
   kind2 :
-      x .stage .kind ≡ 2 → x .stage .finished < x .stage .allowed → x .stage .steps < recordSteps F →
+      x .stage .kind ≡ 2 → x .stage .finished < x .stage .allowed → x .stage .choice ≡ 0 → x .stage .steps < recordSteps F →
       SixteenOk (versionBases F) (F .q) (x .digits) (versionDigits F (x .stage .steps)) → ReaderOk F x
 
 pub record FieldsOk (F : Form) (S : List ℕ) (L : Memory) : Type 0 where

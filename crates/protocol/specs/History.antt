@@ -8,6 +8,7 @@ use lib.Dec.{eqb, ltb}
 use lib.ListN.{length, getD, set, replicate}
 use Rattle.radix.specs.declared.Count.{Count}
 use Rattle.radix.specs.declared.Place.{Place}
+use Rattle.radix.specs.declared.Choice.{Choice}
 use Rattle.protocol.specs.Form.{Form, countSteps, recordSteps}
 use Rattle.protocol.specs.Step.{recordAt, inRecords}
 use Rattle.protocol.specs.Run.{RunOver}
@@ -38,15 +39,17 @@ pub data Pending : Type 0 where
   noWrite countWrite : Pending
   recordWrite : (index : ℕ) → Pending
 
--- a reader's read: of a record read, the steps of its earlier attempts and those of its present one
+-- a reader's read: of a count read, the choice of the command that began it; of a record read, the steps of its earlier
+-- attempts and those of its present one
 pub data Read : Type 0 where
   noRead : Read
-  countRead : (steps : List ℕ) → Read
+  countRead : (choice : Choice) (steps : List ℕ) → Read
   recordRead : (allowed : ℕ) (earlier steps : List ℕ) → Read
 
 -- a finished count read
 pub record CountRead : Type 0 where
   pub reader : ℕ
+  pub choice : Choice
   pub steps : List ℕ
 
 -- a finished attempt, with the steps of the earlier attempts of its read
@@ -119,11 +122,11 @@ writerSteps F h (recordWrite i) =
 -- `acc`: the step ended as record accepted
 unfoldable pub readerSteps : Form → History → ℕ → Bool → Read → History
 readerSteps F h r acc noRead = read h r noRead (h .countReads) (h .attempts)
-readerSteps F h r acc (countRead ts) =
+readerSteps F h r acc (countRead c ts) =
     let us = suc (h .now) ∷ ts in
     cond (eqb (length us) (countSteps F))
-    (read h r noRead (record { reader = r; steps = us } ∷ h .countReads) (h .attempts))
-    (read h r (countRead us) (h .countReads) (h .attempts))
+    (read h r noRead (record { reader = r; choice = c; steps = us } ∷ h .countReads) (h .attempts))
+    (read h r (countRead c us) (h .countReads) (h .attempts))
 readerSteps F h r acc (recordRead a es ts) =
     let us = suc (h .now) ∷ ts in
     let y : Attempt = record { reader = r; allowed = a; earlier = es; steps = us; accepted = acc } in
@@ -138,7 +141,7 @@ counted F S h acc (WriteRecord i) =
     written h (recordWrite i) (h .counts)
     (begun (placed (record { 0 = suc (length (h .records)) }) (recordAt F S i)) ∷ h .records)
 counted F S h acc WriterStep = writerSteps F h (h .pending)
-counted F S h acc (BeginCountRead r) = read h r (countRead []) (h .countReads) (h .attempts)
+counted F S h acc (BeginCountRead r c) = read h r (countRead c []) (h .countReads) (h .attempts)
 counted F S h acc (BeginRecordRead r a) = read h r (recordRead a [] []) (h .countReads) (h .attempts)
 counted F S h acc (ReaderStep r) = readerSteps F h r acc (getD (h .reads) r noRead)
 counted F S h acc (Cancel r) = read h r noRead (h .countReads) (h .attempts)
@@ -156,7 +159,7 @@ recordPending (recordWrite i) = true
 
 abbrev pub reading : Read → Bool
 reading noRead = false
-reading (countRead ts) = true
+reading (countRead c ts) = true
 reading (recordRead a es ts) = true
 
 -- a command fits: a write begins while none is pending, of a record that is lent; a read begins at a reader that is
@@ -165,7 +168,7 @@ unfoldable pub fits : Form → List ℕ → History → Command → Bool
 fits F S h (WriteCount c) = not (countPending (h .pending) || recordPending (h .pending))
 fits F S h (WriteRecord i) = inRecords F S i && not (countPending (h .pending) || recordPending (h .pending))
 fits F S h WriterStep = countPending (h .pending) || recordPending (h .pending)
-fits F S h (BeginCountRead r) = ltb r (F .readers) && not (reading (getD (h .reads) r noRead))
+fits F S h (BeginCountRead r c) = ltb r (F .readers) && not (reading (getD (h .reads) r noRead))
 fits F S h (BeginRecordRead r a) = ltb r (F .readers) && ltb 0 a && not (reading (getD (h .reads) r noRead))
 fits F S h (ReaderStep r) = reading (getD (h .reads) r noRead)
 fits F S h (Cancel r) = reading (getD (h .reads) r noRead)

@@ -6,6 +6,8 @@ use mathlib.Core.Bool.{Bool, true, false, _&&_, cond}
 use Prim.Native.Nat.{ℕ, zero, suc, _+_, _-_, min}
 use lib.Dec.{eqb}
 use lib.ListN.{take, drop}
+use Rattle.radix.specs.declared.Choice.{Choice}
+use Rattle.radix.specs.declared.Choice.the-variants.{Low, High}
 use Rattle.protocol.specs.Lists.{every}
 use Rattle.protocol.specs.Form.{Form, m, own}
 use Rattle.protocol.specs.State.{Writing, resting, aCount, aRecord}
@@ -20,6 +22,9 @@ loadWriting x =
     cond (eqb (x .kind) 1) (aCount (x .count) (x .steps))
     (cond (eqb (x .kind) 2) (aRecord (x .version) (x .index) (x .steps)) resting)
 
+abbrev pub choiceOf : ℕ → Choice
+choiceOf k = cond (eqb k 1) High Low
+
 -- the digits gathered, latest first: j of the first copy, k of the w own digits of the second
 abbrev pub loadDigits : ℕ → ℕ → ℕ → List ℕ → List ℕ
 loadDigits w j k l = take k (drop (8 + (w - k)) l) ++ reverse (take j l)
@@ -27,7 +32,8 @@ loadDigits w j k l = take k (drop (8 + (w - k)) l) ++ reverse (take j l)
 unfoldable pub loadReading : Form → Reader → Reading
 loadReading F x =
     let g = versionDigits F (x .stage .steps) in
-    cond (eqb (x .stage .kind) 1) (ofCount (loadDigits (own F) (min (x .stage .steps) (m F)) (x .stage .steps - m F) (x .digits)))
+    cond (eqb (x .stage .kind) 1)
+    (ofCount (choiceOf (x .stage .choice)) (loadDigits (own F) (min (x .stage .steps) (m F)) (x .stage .steps - m F) (x .digits)))
     (cond (eqb (x .stage .kind) 2)
     (ofRecord (x .stage .allowed) (x .stage .finished) (x .stage .steps) (loadDigits (F .q) (min g (F .q)) (g - F .q) (x .digits)))
     idle)
@@ -62,6 +68,7 @@ sameReader x y =
     eqb (x .stage .kind) (y .stage .kind)
     && eqb (x .stage .allowed) (y .stage .allowed)
     && eqb (x .stage .finished) (y .stage .finished)
+    && eqb (x .stage .choice) (y .stage .choice)
     && eqb (x .stage .steps) (y .stage .steps)
     && same (x .digits) (y .digits)
 

@@ -17,6 +17,7 @@ use Rattle.protocol.specs.State.{
   ofRecord,
   State,
 }
+use Rattle.protocol.specs.Outcome.{choiceNumber}
 use Rattle.protocol.specs.declared.Writer.{Writer}
 use Rattle.protocol.specs.declared.Stage.{Stage}
 use Rattle.protocol.specs.declared.Reader.{Reader}
@@ -44,16 +45,17 @@ eight l = l ++ replicate (8 - length l) 0
 abbrev pub storedDigits : ℕ → ℕ → List ℕ → List ℕ
 storedDigits w k ds = eight (reverse (drop k ds)) ++ eight (replicate (w - k) 0 ++ take k ds)
 
-abbrev pub stageAt : (kind allowed finished steps : ℕ) → Stage
-stageAt k a f s = record { kind = k; allowed = a; finished = f; steps = s }
+abbrev pub stageAt : (kind allowed finished choice steps : ℕ) → Stage
+stageAt k a f c s = record { kind = k; allowed = a; finished = f; choice = c; steps = s }
 
 abbrev pub readerOf : Stage → List ℕ → Reader
 readerOf s ds = record { stage = s; digits = ds }
 
 unfoldable pub storedReading : Form → Reading → Reader
-storedReading F idle = readerOf (stageAt 0 0 0 0) (replicate 16 0)
-storedReading F (ofCount ds) = readerOf (stageAt 1 0 0 (length ds)) (storedDigits (own F) (length ds - m F) ds)
-storedReading F (ofRecord a f s ds) = readerOf (stageAt 2 a f s) (storedDigits (F .q) (length ds - F .q) ds)
+storedReading F idle = readerOf (stageAt 0 0 0 0 0) (replicate 16 0)
+storedReading F (ofCount c ds) =
+    readerOf (stageAt 1 0 0 (choiceNumber c) (length ds)) (storedDigits (own F) (length ds - m F) ds)
+storedReading F (ofRecord a f s ds) = readerOf (stageAt 2 a f 0 s) (storedDigits (F .q) (length ds - F .q) ds)
 
 unfoldable pub stored : Form → State → Memory
 stored F σ = record {

@@ -5,6 +5,7 @@ use Prim.Native.Nat.{ℕ}
 use lib.ListN.{getD, set, take, replicate}
 use Rattle.radix.specs.declared.Count.{Count}
 use Rattle.radix.specs.declared.Version.{Version}
+use Rattle.radix.specs.declared.Choice.{Choice}
 use Rattle.radix.specs.Digits.{digits}
 use Rattle.protocol.specs.Form.{Form, own, versionBases}
 
@@ -14,10 +15,11 @@ pub data Writing : Type 0 where
   aCount : (c : Count) (steps : ℕ) → Writing
   aRecord : (v : Version) (index steps : ℕ) → Writing
 
--- a reader, document 01's station. Digits gathered are kept latest first; bytes gathered are in the buffer.
+-- a reader, document 01's station. Digits gathered are kept latest first; bytes gathered are in the buffer. A count read
+-- keeps the choice that it was begun with.
 pub data Reading : Type 0 where
   idle : Reading
-  ofCount : (ds : List ℕ) → Reading
+  ofCount : (choice : Choice) (ds : List ℕ) → Reading
   ofRecord : (allowed finished steps : ℕ) (ds : List ℕ) → Reading
 
 pub record State : Type 0 where
@@ -51,7 +53,7 @@ busyWriting (aRecord v i k) = true
 
 abbrev pub busyReading : Reading → Bool
 busyReading idle = false
-busyReading (ofCount ds) = true
+busyReading (ofCount c ds) = true
 busyReading (ofRecord a f s ds) = true
 
 -- the same state but for the writer; but for one reader

@@ -4,6 +4,7 @@ use mathlib.Core.Bool.{Bool, _&&_, _||_, not, cond}
 use Prim.Native.Nat.{ℕ, suc, _+_, _*_, _-_}
 use lib.Dec.{eqb, ltb, leb}
 use lib.ListN.{length, take, drop, getD, set, replicate}
+use Rattle.radix.specs.declared.Choice.{Choice}
 use Rattle.radix.specs.declared.Comparison.{Comparison}
 use Rattle.radix.specs.declared.Comparison.the-variants.{Equal, Parted, Crossed}
 use Rattle.radix.specs.Digits.{product, value}
@@ -102,7 +103,7 @@ pub data Gathered : Type 0 where
 -- the position that the next step reads
 abbrev pub nextPosition : Form → Reading → ℕ
 nextPosition F idle = 0
-nextPosition F (ofCount ds) = getD (countReadOrder F) (length ds) 0
+nextPosition F (ofCount c ds) = getD (countReadOrder F) (length ds) 0
 nextPosition F (ofRecord a f s ds) = getD (attemptOrder F) s 0
 
 -- the last step of a count read: c1 was read left to right and c2 right to left, so the latest digits are those of c2
@@ -112,10 +113,11 @@ copyA w ds = reverse (drop w ds)
 abbrev pub copyB : ℕ → List ℕ → List ℕ
 copyB w ds = take w ds
 
-unfoldable pub endCount : Form → (reader : ℕ) → List ℕ → (a b : List ℕ) → Comparison → Gathered
-endCount F r buffer a b Equal = gathered idle buffer (Shown r (record { 0 = value (F .bases) a }))
-endCount F r buffer a b (Parted p) = gathered idle buffer (Between r (lowEnd (F .bases) p a) (highEnd (F .bases) p b))
-endCount F r buffer a b Crossed = refused CopiesCrossed
+unfoldable pub endCount : Form → (reader : ℕ) → Choice → List ℕ → (a b : List ℕ) → Comparison → Gathered
+endCount F r c buffer a b Equal = gathered idle buffer (Shown r (record { 0 = value (F .bases) a }))
+endCount F r c buffer a b (Parted p) =
+    gathered idle buffer (Between r c (lowEnd (F .bases) p a) (highEnd (F .bases) p b))
+endCount F r c buffer a b Crossed = refused CopiesCrossed
 
 -- the last step of an attempt: v2 was read left to right, v1 right to left
 unfoldable pub endAttempt : Form → (reader allowed finished : ℕ) → List ℕ → List ℕ → Gathered
@@ -128,11 +130,11 @@ endAttempt F r allowed finished buffer ds =
 
 unfoldable pub gather : Form → (reader digit : ℕ) → Reading → List ℕ → Gathered
 gather F r d idle buffer = refused NothingPending
-gather F r d (ofCount ds) buffer =
+gather F r d (ofCount c ds) buffer =
     let a = copyA (own F) (d ∷ ds) in
     let b = copyB (m F) (d ∷ ds) in
-    cond (ltb (suc (length ds)) (countSteps F)) (gathered (ofCount (d ∷ ds)) buffer Nothing)
-    (endCount F r buffer a b (compare a b))
+    cond (ltb (suc (length ds)) (countSteps F)) (gathered (ofCount c (d ∷ ds)) buffer Nothing)
+    (endCount F r c buffer a b (compare a b))
 gather F r d (ofRecord a f s ds) buffer =
     cond (leb (F .q) s && ltb s (F .q + F .n)) (gathered (ofRecord a f (suc s) ds) (set buffer (s - F .q) d) Nothing)
     (cond (ltb (suc s) (recordSteps F)) (gathered (ofRecord a f (suc s) (d ∷ ds)) buffer Nothing)
@@ -149,7 +151,7 @@ stepReader F σ r =
 abbrev pub becomes : State → ℕ → Reading → Answer
 becomes σ r x = done (withReader σ r x (bufferOf σ r)) Nothing
 
--- THE SEVEN COMMANDS
+-- THE COMMANDS
 
 unfoldable pub carry : Form → List ℕ → State → Command → Answer
 carry F S σ (WriteCount c) =
@@ -164,8 +166,8 @@ carry F S σ (WriteRecord i) =
     (refuseIf (leb (product (versionBases F)) v) VersionsExhausted
     (done (withWriting σ (aRecord (record { 0 = v }) i 0)) Nothing)))
 carry F S σ WriterStep = stepWriter F S σ (σ .writing)
-carry F S σ (BeginCountRead r) =
-    refuseIf (leb (F .readers) r) NoSuch (refuseIf (busyReading (readingOf σ r)) Busy (becomes σ r (ofCount [])))
+carry F S σ (BeginCountRead r c) =
+    refuseIf (leb (F .readers) r) NoSuch (refuseIf (busyReading (readingOf σ r)) Busy (becomes σ r (ofCount c [])))
 carry F S σ (BeginRecordRead r allowed) =
     refuseIf (leb (F .readers) r || eqb allowed 0) NoSuch
     (refuseIf (busyReading (readingOf σ r)) Busy (becomes σ r (ofRecord allowed 0 0 [])))

@@ -1,6 +1,8 @@
 // The declared types of the protocol. What they mean stands in specs/.
 ghost use mathlib.Core.Path.{_≡_};
-ghost use Rattle.protocol.specs.Outcome.{refusalNumber, endingNumber};
+ghost use Rattle.protocol.specs.Outcome.{refusalNumber, endingNumber, choiceNumber};
+ghost use Rattle.protocol.specs.Load.{choiceOf};
+use radix::Choice;
 use radix::Count;
 use radix::Version;
 
@@ -30,36 +32,38 @@ pub struct Writer {
     pub kind: u32,
 }
 
-// Where a reader's read stands: attempts allowed and finished, steps taken. Kind 0: idle; 1: a count read; 2: a record
-// read.
+// Where a reader's read stands: attempts allowed and finished, the choice of a count read, steps taken. Kind 0: idle; 1:
+// a count read; 2: a record read.
 #[repr(C)]
 pub struct Stage {
     pub kind: u8,
     pub allowed: u8,
     pub finished: u8,
+    pub choice: u8,
     pub steps: usize,
 }
 
-// A reader's state, document 01's station: it lies in memory as if the five fields stood side by side.
+// A reader's state, document 01's station: it lies in memory as if the six fields stood side by side.
 #[repr(C)]
 pub struct Reader {
     pub stage: Stage,
     pub digits: [u8; 16],
 }
 
-// Document 01's slips.
+// Document 01's slips. A count read begins with a choice, which is document 02's: slip 04 names none, which is the low
+// end, and slip 0D the high end.
 pub enum Command {
     WriteCount(Count),
     WriteRecord(u16),
     WriterStep,
-    BeginCountRead(u8),
+    BeginCountRead(u8, Choice),
     BeginRecordRead(u8, u8),
     ReaderStep(u8),
     Cancel(u8),
 }
 
 // How a command that was carried out ended. The record of `Accepted` is in the reader's buffer; the copies of `Between`
-// parted, and these are the two ends that they allow.
+// parted, and these are the two ends that they allow, and which of them the read shows.
 pub enum Outcome {
     Nothing,
     Shown {
@@ -77,6 +81,7 @@ pub enum Outcome {
     },
     Between {
         reader: u8,
+        choice: Choice,
         low: Count,
         high: Count,
     },
@@ -131,4 +136,24 @@ pub fn ending_number(e: Ending) -> u8
         Ending::Finished => 0,
         Ending::Refused(why) => refusal_number(why),
     }
+}
+
+// The number of a choice in a reader's state: 0 if none was named.
+pub fn choice_number(c: Choice) -> u8
+    ensures { λ r. ⌜ r ≡ choiceNumber c ⌝ }
+{
+    match c {
+        Choice::Low => 0,
+        Choice::High => 1,
+    }
+}
+
+// The choice that a number says.
+pub fn choice_of(x: u8) -> Choice
+    ensures { λ r. ⌜ r ≡ choiceOf x ⌝ }
+{
+    if x == 1 {
+        return Choice::High;
+    }
+    Choice::Low
 }

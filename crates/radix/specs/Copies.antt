@@ -8,6 +8,8 @@ use Rattle.radix.specs.Digits.{value}
 use Rattle.radix.specs.declared.Count.{Count}
 use Rattle.radix.specs.declared.Comparison.{Comparison}
 use Rattle.radix.specs.declared.Comparison.the-variants.{Equal, Parted, Crossed}
+use Rattle.radix.specs.declared.Choice.{Choice}
+use Rattle.radix.specs.declared.Choice.the-variants.{Low, High}
 
 -- the same, behind one more digit in which the copies agree
 abbrev pub deeper : Comparison → Comparison
@@ -37,14 +39,7 @@ highEnd bs p b = record { 0 = value bs (zerosAfter (suc p) b) }
 abbrev pub lowEnd : List ℕ → ℕ → List ℕ → Count
 lowEnd bs p a = record { 0 = value bs (largestAfter (suc p) bs a) }
 
--- THE COUNT SHOWN where copies part: the end that is chosen
-pub data Choice : Type 0 where
-  low high : Choice
-
+-- THE COUNT SHOWN where copies part: the end that is chosen. Document 01 shows the high one.
 abbrev pub shown : Choice → (low high : Count) → Count
-shown Choice.low l h = l
-shown Choice.high l h = h
-
--- document 01's choice; no command names one yet
-abbrev pub chosen : Choice
-chosen = Choice.high
+shown Low l h = l
+shown High l h = h

@@ -4,8 +4,9 @@ ghost use mathlib.Core.Bool.{true};
 ghost use Prim.Native.Nat.{_≤_, _<_};
 ghost use lib.ListN.{length, take};
 ghost use Rattle.radix.specs.Digits.{valid};
-ghost use Rattle.radix.specs.Copies.{compare, lowEnd, highEnd};
+ghost use Rattle.radix.specs.Copies.{compare, lowEnd, highEnd, shown as shownOf};
 ghost use Rattle.radix.specs.Answers.{goodBases, compareOf, endsOf};
+use crate::Choice;
 use crate::Compared;
 use crate::Comparison;
 use crate::Count;
@@ -91,5 +92,15 @@ pub fn ends(bases: &[u16], a: &[u8], own: &[u8]) -> Ends
             high: high_end(bases, p, own),
         },
         Comparison::Crossed => Ends::Crossed,
+    }
+}
+
+// The count that a read shows whose copies part: the end that was chosen.
+pub fn shown(choice: Choice, low: Count, high: Count) -> Count
+    ensures { λ r. ⌜ r ≡ shownOf choice low high ⌝ }
+{
+    match choice {
+        Choice::Low => low,
+        Choice::High => high,
     }
 }

@@ -76,12 +76,18 @@ pub enum Compared {
     Refused(Fault),
 }
 
-// The two ends of what two copies allow. The high end is document 01's count shown.
+// The two ends of what two copies allow.
 pub enum Ends {
     Same(Count),
     Between { low: Count, high: Count },
     Crossed,
     Refused(Fault),
+}
+
+// Which end a count read shows where its copies part. Document 02's choice: a read that names none shows the low one.
+pub enum Choice {
+    Low,
+    High,
 }
 
 // Document 01's number of a refusal.

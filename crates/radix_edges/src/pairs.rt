@@ -1,5 +1,6 @@
 // One line for a call on two copies.
 use crate::show;
+use radix::Choice;
 use radix::Compared;
 use radix::Comparison;
 use radix::Ends;
@@ -47,9 +48,9 @@ pub(crate) fn ends(bases: &[u16], a: &[u8], own: &[u8]) {
         }
         Ends::Between { low, high } => {
             show::say(b" low ");
-            show::count(bases, low);
+            show::count(bases, radix::copies::shown(Choice::Low, low, high));
             show::say(b", high ");
-            show::count(bases, high);
+            show::count(bases, radix::copies::shown(Choice::High, low, high));
         }
         Ends::Crossed => show::say(b" crossed"),
         Ends::Refused(why) => show::refused(why),

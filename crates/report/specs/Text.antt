@@ -54,7 +54,7 @@ outcomeLine n buffers Nothing = []
 outcomeLine n buffers (Shown r c) = numbersLine 67 (r ∷ c .0 ∷ [])
 outcomeLine n buffers (Accepted r k v) = acceptedLine n buffers r k v
 outcomeLine n buffers (GaveUp r k) = numbersLine 71 (r ∷ k ∷ [])
-outcomeLine n buffers (Between r low high) = numbersLine 66 (r ∷ low .0 ∷ high .0 ∷ [])
+outcomeLine n buffers (Between r c low high) = numbersLine 66 (r ∷ low .0 ∷ high .0 ∷ [])
 
 -- END, commands carried out, the refusal or 0
 unfoldable pub endLine : (done : ℕ) → Ending → List ℕ
@@ -66,4 +66,4 @@ OutcomeFits n buffers Nothing = Unit {0}
 OutcomeFits n buffers (Shown r c) = Unit {0}
 OutcomeFits n buffers (Accepted r k v) = (n ≤ 256) × (r * n + n ≤ length buffers)
 OutcomeFits n buffers (GaveUp r k) = Unit {0}
-OutcomeFits n buffers (Between r low high) = Unit {0}
+OutcomeFits n buffers (Between r c low high) = Unit {0}

@@ -23,7 +23,7 @@ unfoldable pub spaceOf : Parsed → Space
 spaceOf (refused why) = record { page = 0; buffers = 0; states = 0 }
 spaceOf (header x) =
     let F = x .form in
-    record { page = countSteps F + recordSteps F; buffers = F .readers * F .n; states = F .readers * 27 }
+    record { page = countSteps F + recordSteps F; buffers = F .readers * F .n; states = F .readers * 28 }
 
 -- where the run begins, and what is lent as it begins
 pub record Start : Type 0 where

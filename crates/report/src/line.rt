@@ -62,12 +62,12 @@ pub(crate) fn put(out: &mut [u8], n: usize, buffers: &[u8], o: Outcome) -> usize
             71,
             &[bytes::wide(reader), bytes::wide(attempts)],
         ),
-        Outcome::Between { reader, low, high } => put_numbers(
-            out,
-            0,
-            66,
-            &[bytes::wide(reader), low.0, high.0],
-        ),
+        Outcome::Between {
+            reader,
+            low,
+            high,
+            choice: _,
+        } => put_numbers(out, 0, 66, &[bytes::wide(reader), low.0, high.0]),
     }
 }
 

@@ -15,7 +15,7 @@ use protocol::Writer;
 // How long the page, all buffers and all states are.
 pub fn room(input: &[u8], more: bool) -> Space
     ensures { λ r. ⌜ r ≡ spaceOf (parseOf more (now (input .entry))) ⌝ }
-    ensures { λ r. ⌜ (r .page ≤ 280) × (r .buffers ≤ 4096) × (r .states ≤ 432) ⌝ }
+    ensures { λ r. ⌜ (r .page ≤ 280) × (r .buffers ≤ 4096) × (r .states ≤ 448) ⌝ }
 {
     let p = header::parse(input, more);
     let Parsed::Is(h) = p else {
@@ -30,7 +30,7 @@ pub fn room(input: &[u8], more: bool) -> Space
     Space {
         page: m + m + f.q + f.n + f.q,
         buffers: f.readers * f.n,
-        states: f.readers * 27,
+        states: f.readers * 28,
     }
 }
 

@@ -14,6 +14,7 @@ pub fn empty(r: &mut Reader)
             kind: 0,
             allowed: 0,
             finished: 0,
+            choice: 0,
             steps: 0,
         },
         digits: [0; 16],

@@ -7,7 +7,7 @@ use native.Mathlib.Omega.{arith}
 use lib.Dec.{eqb}
 use lib.ListN.{length}
 use borrow.Author.Tests.{le-leb, ne-eqb}
-use Rattle.protocol.specs.Form.{Form, goodForm}
+use Rattle.protocol.specs.Form.{Form, goodForm, between}
 use Rattle.protocol.specs.Memory.{Memory, goodLengths}
 use Rattle.protocol.specs.Load.{validMemory}
 use Rattle.protocol.specs.Outcome.{refusalNumber, endingNumber}
@@ -21,7 +21,7 @@ use Rattle.protocol.specs.declared.Reader.{Reader}
 use Rattle.protocol.specs.declared.Refusal.{Refusal}
 use Rattle.protocol.specs.declared.Refusal.the-variants.{BadFormat, WrongLength, InvalidState, NoSuch}
 use Rattle.protocol.proofs.InRange.{in-range}
-use Rattle.protocol.proofs.Lists.Cases.{together}
+use Rattle.protocol.proofs.Lists.Cases.{together, neither}
 use Rattle.page.specs.declared.Answer.{Answer}
 use Rattle.page.specs.declared.Answer.the-variants.{Done as WasDone, Refused as WasRefused}
 use Rattle.page.specs.declared.Stepped.{Stepped}
@@ -53,11 +53,14 @@ module _ (o : Order) where
 
   -- AN UNKNOWN KIND: its command is refused, as there is no such reader
   module _ (h : known o ≡ false) where
+    apart : (eqb (o .kind) 0x0D ≡ false) × (between 1 7 (o .kind) ≡ false)
+    apart = neither (eqb (o .kind) 0x0D) (between 1 7 (o .kind)) h
+
     other : (k : ℕ) → 1 ≤ k → k ≤ 7 → eqb (o .kind) k ≡ false
     other k low high =
         ne-eqb (o .kind) k (λ e.
         let z : false ≡ true
-        = sym h ∙ together (le-leb 1 (o .kind) (omega arith)) (le-leb (o .kind) 7 (omega arith)) in
+        = sym (apart .1) ∙ together (le-leb 1 (o .kind) (omega arith)) (le-leb (o .kind) 7 (omega arith)) in
         let y : _≡_ {A = ℕ} 0 1 = cc in omega arith)
 
     no-command : commandOf o ≡ ReaderStep 255
@@ -71,6 +74,7 @@ module _ (o : Order) where
           other 5 (omega arith) (omega arith),
           other 6 (omega arith) (omega arith),
           other 7 (omega arith) (omega arith),
+          apart .0,
         )
 
 module _ (F : Form) (S : List ℕ) (L : Memory) (o : Order) where

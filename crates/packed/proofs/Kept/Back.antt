@@ -18,30 +18,30 @@ use Rattle.packed.specs.Kept.{Kept, statesOf, unpackedOf, packedOver}
 use Rattle.packed.proofs.Packings.RoundTrip.{Lendable, packed-back}
 use Rattle.packed.proofs.Kept.States.{states-are, unpacks}
 
-fitted : (rs : List Reader) (l : List ℕ) → unpackAll rs l .ending ≡ Finished → length l ≡ length rs * 27
+fitted : (rs : List Reader) (l : List ℕ) → unpackAll rs l .ending ≡ Finished → length l ≡ length rs * 28
 unfolding unpackAll
-fitted rs l = by-test (eqb (length l) (length rs * 27)) refl
+fitted rs l = by-test (eqb (length l) (length rs * 28)) refl
   where
     by-test :
-        (t : Bool) → eqb (length l) (length rs * 27) ≡ t →
+        (t : Bool) → eqb (length l) (length rs * 28) ≡ t →
         cond t (unpackedLent Finished (unpackFrom (length rs) l)) (unpackedLent (Refused WrongLength) rs) .ending
         ≡ Finished →
-        length l ≡ length rs * 27
-    by-test true e f = eqb-true (length l) (length rs * 27) e
+        length l ≡ length rs * 28
+    by-test true e f = eqb-true (length l) (length rs * 28) e
     by-test false e f = not-finished WrongLength f
 
-fits : (rs : List Reader) (l : List ℕ) → length l ≡ length rs * 27 → packAll rs l .ending ≡ Finished
+fits : (rs : List Reader) (l : List ℕ) → length l ≡ length rs * 28 → packAll rs l .ending ≡ Finished
 unfolding packAll
-fits rs l e = rw (eq-eqb (length l) (length rs * 27) e)
+fits rs l e = rw (eq-eqb (length l) (length rs * 28) e)
 
 pub comes-back :
     (K : Kept) (L : Memory) → All Lendable (L .readers) → length (L .readers) ≤ 16 →
-    length (K .states) ≡ length (L .readers) * 27 → unpackedOf (packedOver K L) ≡ L
+    length (K .states) ≡ length (L .readers) * 28 → unpackedOf (packedOver K L) ≡ L
 comes-back K L each few long =
     let rs = L .readers in
     let s = packAll rs (K .states) .bytes in
     let back : unpackAll rs s ≡ unpackedLent Finished rs = packed-back rs rs (K .states) each refl (fits rs (K .states) long) in
-    let size : length s ≡ length rs * 27 = fitted rs s (ap (λ (x : UnpackedLent). x .ending) back) in
+    let size : length s ≡ length rs * 28 = fitted rs s (ap (λ (x : UnpackedLent). x .ending) back) in
     let many : length rs ≡ statesOf (length s) = sym (states-are (length rs) few) ∙ ap statesOf (sym size) in
     ap (λ (ss : List Reader). lent (L .page) (L .writer) ss (L .buffers))
     (sym (unpacks rs s many) ∙ ap (λ (x : UnpackedLent). x .readers) back)

@@ -33,18 +33,18 @@ use Rattle.packed.proofs.Packings.RoundTrip.{Bytes}
 use Rattle.packed.proofs.Kept.States.{by-states, stays}
 
 -- idle readers are zeros
-pub idle-zeros : (k : ℕ) → concat (map packed (replicate k idleReader)) ≡ replicate (k * 27) 0
+pub idle-zeros : (k : ℕ) → concat (map packed (replicate k idleReader)) ≡ replicate (k * 28) 0
 unfolding packed
-idle-zeros zero = ap (λ n. replicate n 0) (sym (zero-mul 27))
+idle-zeros zero = ap (λ n. replicate n 0) (sym (zero-mul 28))
 idle-zeros (suc k) =
-    let e : 27 + k * 27 ≡ suc k * 27 = omega (arith, suc-mul k 27) in
-    ap (λ (l : List ℕ). replicate 27 0 ++ l) (idle-zeros k)
-    ∙ replicate-append-replicate 27 (k * 27) 0
+    let e : 28 + k * 28 ≡ suc k * 28 = omega (arith, suc-mul k 28) in
+    ap (λ (l : List ℕ). replicate 28 0 ++ l) (idle-zeros k)
+    ∙ replicate-append-replicate 28 (k * 28) 0
     ∙ ap (λ n. replicate n 0) e
 
-pub packed-idle : (k : ℕ) (l : List ℕ) → length l ≡ k * 27 → packAll (replicate k idleReader) l .bytes ≡ replicate (k * 27) 0
+pub packed-idle : (k : ℕ) (l : List ℕ) → length l ≡ k * 28 → packAll (replicate k idleReader) l .bytes ≡ replicate (k * 28) 0
 unfolding packAll
-packed-idle k l e = rw (length-replicate k idleReader, eq-eqb (length l) (k * 27) e, idle-zeros k)
+packed-idle k l e = rw (length-replicate k idleReader, eq-eqb (length l) (k * 28) e, idle-zeros k)
 
 module _ (F : Form) (L : Memory) (c : Count) (r : List ℕ) where
   finished-test : openLent F L c r .opened .ending ≡ Finished → openingIn F L c r ≡ Finished
@@ -78,12 +78,12 @@ module _ (F : Form) (K : Kept) (c : Count) (r : List ℕ) where
 
   -- so there were the states of so many
   pub opened-states :
-      openLent F (unpackedOf K) c r .opened .ending ≡ Finished → (length (K .states) ≡ k * 27) × (k ≡ F .readers)
+      openLent F (unpackedOf K) c r .opened .ending ≡ Finished → (length (K .states) ≡ k * 28) × (k ≡ F .readers)
   opened-states h =
       let (many, some) = as-many F (unpackedOf K) c r h in
       let same : k ≡ F .readers = sym (unpacked-length k (K .states)) ∙ many in
       let whole =
-      by-states (λ j. 1 ≤ j → length (K .states) ≡ j * 27) (length (K .states)) (λ j _ e _. e)
+      by-states (λ j. 1 ≤ j → length (K .states) ≡ j * 28) (length (K .states)) (λ j _ e _. e)
       (λ z. absurd (omega arith))
       in
       (whole (omega arith), same)
@@ -125,11 +125,11 @@ module _ (F : Form) (K : Kept) (c : Count) (r : List ℕ) where
 
   -- the states that an accepted opening leaves
   pub opened-zeros :
-      openKept F K c r .opened .ending ≡ Finished → openKept F K c r .kept .states ≡ replicate (27 * F .readers) 0
+      openKept F K c r .opened .ending ≡ Finished → openKept F K c r .kept .states ≡ replicate (28 * F .readers) 0
   unfolding openKept
   opened-zeros h =
       let (whole, same) = opened-states h in
-      let as-said : k * 27 ≡ 27 * F .readers = omega arith in
+      let as-said : k * 28 ≡ 28 * F .readers = omega arith in
       ap (λ (ss : List Reader). packAll ss (K .states) .bytes)
       (opened-idle F (unpackedOf K) c r h ∙ ap (λ n. replicate n idleReader) (unpacked-length k (K .states)))
       ∙ packed-idle k (K .states) whole

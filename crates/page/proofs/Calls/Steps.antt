@@ -1,26 +1,30 @@
 -- One command is the run of its bytes: what the run of them tells, whatever zeros follow.
 use mathlib.Core.Path.{_≡_, refl, ap, _∙_}
-use mathlib.Core.List.{List, [], _∷_, append-nil}
-use mathlib.Core.Bool.{true}
-use Prim.Native.Nat.{ℕ, zero, suc, _-_, _≤_}
+use mathlib.Core.List.{List, [], _∷_, map, append-nil}
+use mathlib.Core.Bool.{Bool, true, false}
+use Prim.Native.Nat.{ℕ, zero, suc, _-_, _≤_, _<_}
 use native.Mathlib.Omega.{arith}
-use lib.ListN.{length, replicate}
-use borrow.Author.Tests.{le-ltb, eq-eqb, ne-eqb}
+use lib.Dec.{eqb, leb}
+use lib.ListN.{length, getD, replicate, length-map, List·getD-map, List·getD-eq-default}
+use borrow.Author.Tests.{le-ltb, eq-eqb, ne-eqb, leb-true, leb-false}
+use Rattle.radix.specs.declared.Choice.{Choice}
 use Rattle.protocol.specs.Form.{Form}
-use Rattle.protocol.specs.State.{State}
+use Rattle.protocol.specs.State.{State, idle}
 use Rattle.protocol.specs.Outcome.{entry, longest}
 use Rattle.protocol.specs.Command.{command, decode}
 use Rattle.protocol.specs.Step.{Answer, refused, done, carry}
 use Rattle.protocol.specs.Memory.{Memory}
-use Rattle.protocol.specs.Load.{load, validMemory}
+use Rattle.protocol.specs.Load.{choiceOf, loadReading, load, validMemory}
 use Rattle.protocol.specs.Allowed.{allowed}
 use Rattle.protocol.specs.Run.{Execution, stop, answered, Run, inMemory, run, logAfter}
 use Rattle.protocol.specs.declared.Command.{Command}
+use Rattle.protocol.specs.declared.Command.the-variants.{ReaderStep}
+use Rattle.protocol.specs.declared.Reader.{Reader}
 use Rattle.protocol.specs.declared.Ending.{Ending}
 use Rattle.protocol.specs.declared.Ending.the-variants.{Finished, Refused}
 use Rattle.protocol.specs.declared.Outcome.{Outcome}
 use Rattle.protocol.specs.declared.Refusal.the-variants.{UnknownCommand}
-use Rattle.protocol.proofs.Lists.Cases.{three}
+use Rattle.protocol.proofs.Lists.Cases.{by-cond, three}
 use Rattle.protocol.proofs.Log.Entries.{entry-longest}
 use Rattle.protocol.proofs.Memory.Stored.{stored-load}
 use Rattle.protocol.proofs.Allowed.Means.{means}
@@ -30,7 +34,9 @@ use Rattle.codec.specs.Entry.{outcomeIn}
 use Rattle.codec.proofs.Encodes.{decode-encode}
 use Rattle.codec.proofs.Nines.{decode-nine, decode-zeros}
 use Rattle.codec.proofs.FoundAgain.{outcome-first}
+use Rattle.checks.specs.Valid.{idleReader}
 use Rattle.checks.proofs.Opening.{opensInto}
+use Rattle.states.specs.Choice.{choiceAt}
 use Rattle.page.specs.declared.Answer.{Answer as PageAnswer}
 use Rattle.page.specs.declared.Answer.the-variants.{Done, Refused as No}
 use Rattle.page.specs.declared.Ran.{Ran}
@@ -39,7 +45,7 @@ use Rattle.page.specs.Calls.{RanLent, ranLent, ranOf, runLent, startLent
 use Rattle.page.specs.Calls.{CarriesStep}
 use Rattle.page.proofs.Calls.Begun.{begins, run-is}
 use Rattle.page.proofs.Calls.Carries.{carries}
-use Rattle.page.proofs.Calls.Outcomes.{Fine, carry-fits}
+use Rattle.page.proofs.Calls.Outcomes.{Chose, Steps, Fine, carry-fits}
 
 -- what the run of one command comes to, where e is how what follows ends
 abbrev oneRun : State → Ending → Answer → Execution
@@ -104,11 +110,38 @@ state-allowed : {F : Form} {S : List ℕ} {L : Memory} → Ready F S L → allow
 unfolding validMemory
 state-allowed {F} {S} {L} ready = three (allowed F S (load F L)) _ _ (ready .valid) .0
 
--- WHAT IT TELLS, with a log of so many zeros
-abbrev tells : RanLent → After
-tells z = after (steppedOf (z .ran) (z .log) .answer) (z .memory)
+-- a reader that is loaded has the choice that its number says
+loaded-choice : (F : Form) (y : Reader) → Chose (choiceOf (y .stage .choice)) (loadReading F y)
+unfolding loadReading
+loaded-choice F y =
+    by-cond (Chose (choiceOf (y .stage .choice))) (eqb (y .stage .kind) 1) (λ e. refl) (λ e.
+    by-cond (Chose (choiceOf (y .stage .choice))) (eqb (y .stage .kind) 2) (λ e. tt) (λ e. tt))
 
-module _ (F : Form) (S : List ℕ) (L : Memory) (x : Command) (range : InRange x) where
+loaded-at : (F : Form) (rs : List Reader) (k : ℕ) → getD (map (loadReading F) rs) k idle ≡ loadReading F (getD rs k idleReader)
+unfolding loadReading
+loaded-at F rs k = List·getD-map (loadReading F) rs k idleReader
+
+-- WHAT IT TELLS, with a log of so many zeros, where n is the number of the choice of the reader that is stepped
+module _ (F : Form) (S : List ℕ) (L : Memory) (x : Command) (range : InRange x) (n : ℕ)
+    (chosen : (r : ℕ) → x ≡ ReaderStep r → r < length (L .readers) → n ≡ choiceAt (L .readers) r) where
+  abbrev tells : RanLent → After
+  tells z = after (steppedOf (z .ran) (z .log) n .answer) (z .memory)
+
+  -- of a reader that there is not, no read is loaded
+  chose : Steps (choiceOf n) (load F L) x
+  unfolding load
+  chose r e = go (leb (length rs) r) refl
+    where
+      rs : List Reader
+      rs = L .readers
+
+      go : (t : Bool) → leb (length rs) r ≡ t → Chose (choiceOf n) (getD (map (loadReading F) rs) r idle)
+      go true p =
+          rw (List·getD-eq-default (map (loadReading F) rs) idle {n = r}
+          (omega (arith, leb-true (length rs) r p, length-map rs (loadReading F)))) tt
+      go false p =
+          rw (chosen r e (leb-false (length rs) r p), loaded-at F rs r) (loaded-choice F (getD rs r idleReader))
+
   abbrev s : List ℕ
   s = nine (encode x)
 
@@ -126,13 +159,13 @@ module _ (F : Form) (S : List ℕ) (L : Memory) (x : Command) (range : InRange x
       (run-one F S L x s rest (decode-nine x range) e quiet log (omega arith))
       ∙ by-start e (startLent F S L) refl
     where
-      by-answer : (e : Ending) → Ready F S L → (a : Answer) → Fine a →
+      by-answer : (e : Ending) → Ready F S L → (a : Answer) → Fine (choiceOf n) a →
           let y = inMemory F (oneRun (load F L) e a) in
           tells (ranLent (ranOf s (y .events) (y .ending) (y .memory .writer)) (y .memory) (logAfter (y .events) log))
           ≡ onAnswer F anyRoom L a
       by-answer e ready (refused why) h = ap (after (No why)) (stored-load F S L (ready .lengths) (ready .valid))
       by-answer e ready (done τ o) h =
-          rw (le-ltb anyRoom (length (entry o)) (omega (arith, entry-longest o)), append-nil (entry o), outcome-first o h)
+          rw (le-ltb anyRoom (length (entry o)) (omega (arith, entry-longest o)), append-nil (entry o), outcome-first (choiceOf n) o (h .1) (h .0))
 
       by-start : (e z : Ending) → startLent F S L ≡ z →
           let y = opensInto L (inMemory F (oneRun (load F L) e (carry F S (load F L) x))) z in
@@ -141,16 +174,17 @@ module _ (F : Form) (S : List ℕ) (L : Memory) (x : Command) (range : InRange x
       by-start e Finished p =
           let ready = begins F S L p .ready in
           by-answer e ready (carry F S (load F L) x)
-          (carry-fits F (ready .good) S (load F L) (means F S (load F L) (state-allowed ready)) x)
+          (carry-fits F (ready .good) (choiceOf n) S (load F L) (means F S (load F L) (state-allowed ready)) x chose)
       by-start e (Refused why) p = refl
 
   -- so the code answers
   pub step-is :
       {r : Ran} {M : Memory} {l : List ℕ} → ranLent r M l ≡ runLent F S L s log →
-      after (steppedOf r l .answer) M ≡ stepLent F S L x
+      after (steppedOf r l n .answer) M ≡ stepLent F S L x
   step-is e = ap tells e ∙ run-tells
 
-  -- the claim, with any log that has room for every entry
+-- the claim, with any log that has room for every entry
+module _ (F : Form) (S : List ℕ) (L : Memory) (x : Command) (range : InRange x) where
   pub step-carries : (l : List ℕ) → longest ≤ length l → CarriesStep F S L x l
   step-carries l h = record {
     leaves = run-leaves F S L x (encode x) [] (decode-encode x range) Finished (none-quiet F S) l h;
@@ -158,12 +192,13 @@ module _ (F : Form) (S : List ℕ) (L : Memory) (x : Command) (range : InRange x
   }
 
 -- WHAT THE CODE MAKES OF IT
-module _ (r : Ran) (l : List ℕ) where
+module _ (r : Ran) (l : List ℕ) (n : ℕ) where
   pub stepped-done :
-      {o : Outcome} → r .done ≡ 1 → o ≡ outcomeIn l → record { answer = Done o; writer = r .writer } ≡ steppedOf r l
-  stepped-done d e = rw (e, eq-eqb (r .done) 1 d)
+      {c : Choice} {o : Outcome} → r .done ≡ 1 → c ≡ choiceOf n → o ≡ outcomeIn c l →
+      record { answer = Done o; writer = r .writer } ≡ steppedOf r l n
+  stepped-done d is e = rw (e, is, eq-eqb (r .done) 1 d)
 
   pub stepped-not :
       {a : PageAnswer} → (r .done ≡ 1 → ⊥) → a ≡ answerOf (r .ending) →
-      record { answer = a; writer = r .writer } ≡ steppedOf r l
+      record { answer = a; writer = r .writer } ≡ steppedOf r l n
   stepped-not d e = rw (e, ne-eqb (r .done) 1 d)

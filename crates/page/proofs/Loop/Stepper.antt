@@ -34,7 +34,8 @@ module _ (size none : ℕ) where
       (either size No nothing (eqb kind 3) _ _ (one size No nothing 0 l _ (λ n. refl))
       (either size No nothing (eqb kind 4) _ _ (one size No nothing 1 l _ (λ n. refl))
       (either size No nothing (eqb kind 5) _ _ (one size No nothing 2 l _ (λ n. refl))
-      (either size No nothing (eqb kind 7) _ _ (one size No nothing 1 l _ (λ n. refl)) (no-command size No nothing)))))))
+      (either size No nothing (eqb kind 7) _ _ (one size No nothing 1 l _ (λ n. refl))
+      (either size No nothing (eqb kind 0x0D) _ _ (one size No nothing 1 l _ (λ n. refl)) (no-command size No nothing))))))))
 
 module _ (s : List ℕ) (at none : ℕ) (h : at < length s) where
   pub no-step : (getD s at 0 ≡ 6 → ⊥) → none ≡ stepperIn (decodeAt s at) none

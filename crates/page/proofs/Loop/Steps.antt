@@ -66,7 +66,7 @@ module _ (F : Form) (n : ℕ) (rs : List Reader) where
   then-ends (Decoded.Is (WriteCount c) next) ends low = refl
   then-ends (Decoded.Is (WriteRecord i) next) ends low = refl
   then-ends (Decoded.Is WriterStep next) ends low = refl
-  then-ends (Decoded.Is (BeginCountRead r) next) ends low = refl
+  then-ends (Decoded.Is (BeginCountRead r c) next) ends low = refl
   then-ends (Decoded.Is (BeginRecordRead r a) next) ends low = refl
   then-ends (Decoded.Is (ReaderStep r) next) ends low = ends low
   then-ends (Decoded.Is (Cancel r) next) ends low = refl

@@ -34,7 +34,8 @@ module _ (size : ℕ) (w : Writer) where
       (either size No nothing (eqb kind 4) _ _ (one size No nothing 1 l _ (λ n. refl))
       (either size No nothing (eqb kind 5) _ _ (one size No nothing 2 l _ (λ n. refl))
       (either size No nothing (eqb kind 6) _ _ (one size No nothing 1 l _ (λ n. refl))
-      (either size No nothing (eqb kind 7) _ _ (one size No nothing 1 l _ (λ n. refl)) (no-command size No nothing)))))))
+      (either size No nothing (eqb kind 7) _ _ (one size No nothing 1 l _ (λ n. refl))
+      (either size No nothing (eqb kind 0x0D) _ _ (one size No nothing 1 l _ (λ n. refl)) (no-command size No nothing))))))))
 
 module _ (s : List ℕ) (at : ℕ) (h : at < length s) (w : Writer) where
   pub no-write : (getD s at 0 ≡ 3 → ⊥) → false ≡ writesOnIn (decodeAt s at) w

@@ -130,7 +130,7 @@ module _
           ∙ quiet F room x b (ofRecord (s .allowed) (suc (s .finished)) 0 []) b
           ∙ ap (λ (y : Reader). left (Done Nothing) y b)
           (same-fields (storedReading F (ofRecord (s .allowed) (suc (s .finished)) 0 [])) _ (sym (w .kind)) refl
-          (sym (add-one (s .finished))) refl (none-stored (F .q) (F .q) (omega (arith, w .places)))))
+          (sym (add-one (s .finished))) refl refl (none-stored (F .q) (F .q) (omega (arith, w .places)))))
 
       pub attempt-over :
           s .allowed ≤ s .finished + 1 → gaveUp F who (s .finished + 1) room x b ≡ onGathered F room x b ends

@@ -5,6 +5,8 @@ use Prim.Native.Nat.{ℕ, _-_, _≤_}
 use native.Mathlib.Omega.{arith}
 use lib.ListN.{length, replicate}
 use borrow.Author.Tests.{eq-eqb, ne-eqb}
+use Rattle.radix.specs.declared.Choice.{Choice}
+use Rattle.protocol.specs.Outcome.{choiceNumber}
 use Rattle.protocol.specs.Form.{Form, m, own}
 use Rattle.protocol.specs.State.{Reading, ofCount}
 use Rattle.protocol.specs.Memory.{stageAt, readerOf, storedDigits, storedReading}
@@ -33,11 +35,11 @@ module _ (F : Form) (x : Reader) (held : Held F x) (b : List ℕ) where
   begin-busy σ k = rw (at-busy F x held k)
 
   pub begin-count :
-      x .stage .kind ≡ 0 →
-      left (Done Nothing) (readerOf (stageAt 1 0 0 0) (x .digits)) b
-      ≡ begun F (ofCount []) x b
+      (c : Choice) → x .stage .kind ≡ 0 →
+      left (Done Nothing) (readerOf (stageAt 1 0 0 (choiceNumber c) 0) (x .digits)) b
+      ≡ begun F (ofCount c []) x b
   unfolding storedReading
-  begin-count k =
+  begin-count c k =
       rw (not-busy F x held k, zeros k, none-stored (m F) (own F) (omega (arith, in-range F (held .form) .places)))
 
   -- a record read takes an attempt at least
@@ -49,7 +51,7 @@ module _ (F : Form) (x : Reader) (held : Held F x) (b : List ℕ) where
 
   pub begin-record :
       (n : ℕ) → (n ≡ 0 → ⊥) → x .stage .kind ≡ 0 →
-      left (Done Nothing) (readerOf (stageAt 2 n 0 0) (x .digits)) b ≡ begunRecord F n x b
+      left (Done Nothing) (readerOf (stageAt 2 n 0 0 0) (x .digits)) b ≡ begunRecord F n x b
   unfolding storedReading
   begin-record n e k =
       rw (
@@ -64,6 +66,6 @@ module _ (F : Form) (x : Reader) (held : Held F x) (b : List ℕ) where
 
   pub cancel-busy :
       (l : List ℕ) → (x .stage .kind ≡ 0 → ⊥) → l ≡ replicate (length (x .digits)) 0 →
-      left (Done Nothing) (readerOf (stageAt 0 0 0 0) l) b ≡ cancelled F x b
+      left (Done Nothing) (readerOf (stageAt 0 0 0 0 0) l) b ≡ cancelled F x b
   unfolding storedReading
   cancel-busy l k e = rw (at-busy F x held k, e, held-long F x held)

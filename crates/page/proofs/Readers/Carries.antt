@@ -6,6 +6,7 @@ use Prim.Native.Nat.{ℕ, _<_}
 use native.Mathlib.Omega.{arith}
 use lib.Dec.{leb, eqb}
 use borrow.Author.Tests.{lt-leb}
+use Rattle.radix.specs.declared.Choice.{Choice}
 use Rattle.protocol.specs.Form.{Form}
 use Rattle.protocol.specs.State.{Reading, idle, ofCount, ofRecord, State, readingOf, bufferOf, busyReading}
 use Rattle.protocol.specs.Step.{refused, refuseIf, Gathered, gathered, onGathered, becomes, carry}
@@ -43,9 +44,10 @@ module _ (F : Form) (S : List ℕ) (σ : State) (r : ℕ) (inside : r < F .reade
       go true = refl
       go false = refl
 
-  pub carry-count : carry F S σ (BeginCountRead r) ≡ onGathered σ r (reads F (σ .page) r y b (BeginCountRead r))
+  pub carry-count : (c : Choice) → carry F S σ (BeginCountRead r c)
+      ≡ onGathered σ r (reads F (σ .page) r y b (BeginCountRead r c))
   unfolding carry reads
-  carry-count = rw known (begins (ofCount []))
+  carry-count c = rw known (begins (ofCount c []))
 
   pub carry-record : (a : ℕ) → carry F S σ (BeginRecordRead r a)
       ≡ onGathered σ r (reads F (σ .page) r y b (BeginRecordRead r a))
@@ -79,7 +81,7 @@ unfolding whoseOf
 carry-reads F S σ i (WriteCount c) e h = absurd (omega arith)
 carry-reads F S σ i (WriteRecord k) e h = absurd (omega arith)
 carry-reads F S σ i WriterStep e h = absurd (omega arith)
-carry-reads F S σ i (BeginCountRead r) e h = rw (← e) (carry-count F S σ r (omega arith))
+carry-reads F S σ i (BeginCountRead r c) e h = rw (← e) (carry-count F S σ r (omega arith) c)
 carry-reads F S σ i (BeginRecordRead r a) e h = rw (← e) (carry-record F S σ r (omega arith) a)
 carry-reads F S σ i (ReaderStep r) e h = rw (← e) (carry-step F S σ r (omega arith))
 carry-reads F S σ i (Cancel r) e h = rw (← e) (carry-cancel F S σ r (omega arith))

@@ -10,6 +10,7 @@ use lib.ListN.{take, drop, getD}
 use borrow.Rule.Slice.PartMut.{putMid}
 use denote.Enum.Declared.{tagOf}
 use types.Run.{OneOf}
+use Rattle.radix.specs.declared.Choice.{Choice}
 use Rattle.protocol.specs.Form.{Form}
 use Rattle.protocol.specs.State.{Reading, idle, ofCount, ofRecord, busyReading}
 use Rattle.protocol.specs.Step.{Gathered, gathered, gather, nextPosition}
@@ -116,7 +117,7 @@ module _ (F : Form) (page : List ℕ) (i room : ℕ) (x : Reader) (bs : List ℕ
   not-reader (WriteCount v) h = kept (WriteCount v) _ (x .digits) refl
   not-reader (WriteRecord k) h = kept (WriteRecord k) _ (x .digits) refl
   not-reader WriterStep h = kept WriterStep _ (x .digits) refl
-  not-reader (BeginCountRead r) h = absurd (omega (arith, first-three 3 h))
+  not-reader (BeginCountRead r d) h = absurd (omega (arith, first-three 3 h))
   not-reader (BeginRecordRead r a) h = absurd (omega (arith, first-three 4 h))
   not-reader (ReaderStep r) h = absurd (omega (arith, first-three 5 h))
   not-reader (Cancel r) h = absurd (omega (arith, first-three 6 h))
@@ -125,10 +126,10 @@ module _ (F : Form) (page : List ℕ) (i room : ℕ) (x : Reader) (bs : List ℕ
     abbrev Reads : Taken → (digits buffers : List ℕ) → Type 0
     Reads t l bs′ = readBy t l bs′ ≡ readsAt F page i room x bs c
 
-    pub reads-count : (r : ℕ) → c ≡ BeginCountRead r → (t : Taken) (l : List ℕ) → Leaves t l (begun F (ofCount []) x)
+    pub reads-count : (r : ℕ) (d : Choice) → c ≡ BeginCountRead r d → (t : Taken) (l : List ℕ) → Leaves t l (begun F (ofCount d []) x)
         → Reads t l bs
     unfolding reads
-    reads-count r e t l h = kept c t l (h b ∙ begun-meant (ofCount []) ∙ ap (λ z. meant (reads F page i y b z)) (sym e))
+    reads-count r d e t l h = kept c t l (h b ∙ begun-meant (ofCount d []) ∙ ap (λ z. meant (reads F page i y b z)) (sym e))
 
     pub reads-record : (r a : ℕ) → c ≡ BeginRecordRead r a → (t : Taken) (l : List ℕ) → Leaves t l (begunRecord F a x)
         → Reads t l bs

@@ -8,6 +8,9 @@ use lib.ListN.{length, set, drop, take, length-take, length-set}
 use borrow.Author.Tests.{lt-ltb, le-ltb, le-leb, eq-eqb}
 use denote.Enum.Declared.{tagOf}
 use types.Run.{OneOf}
+use Rattle.radix.specs.declared.Choice.{Choice}
+use Rattle.protocol.specs.Load.{choiceOf}
+use Rattle.protocol.proofs.Memory.Entries.{load-choice}
 use Rattle.radix.proofs.Ends.{the-type}
 use Rattle.radix.specs.declared.Ends.{Ends}
 use Rattle.radix.specs.declared.Ends.the-variants.{Same}
@@ -44,27 +47,27 @@ pub ends-parts :
 ends-parts F digits n e is h = let w : 8 + n - 8 ≡ own F = omega arith in rw w at h
 
 -- how a read with these ends of its copies ends
-unfoldable pub toldBy : ℕ → List ℕ → Ends → Gathered
-toldBy r b (Same c) = Gathered.gathered idle b (Shown r c)
-toldBy r b (Ends.Between low high) = Gathered.gathered idle b (Between r low high)
-toldBy r b Ends.Crossed = Gathered.refused CopiesCrossed
-toldBy r b (Ends.Refused why) = Gathered.refused CopiesCrossed
+unfoldable pub toldBy : ℕ → Choice → List ℕ → Ends → Gathered
+toldBy r c b (Same n) = Gathered.gathered idle b (Shown r n)
+toldBy r c b (Ends.Between low high) = Gathered.gathered idle b (Between r c low high)
+toldBy r c b Ends.Crossed = Gathered.refused CopiesCrossed
+toldBy r c b (Ends.Refused why) = Gathered.refused CopiesCrossed
 
 -- the two that tell nothing: the code tells by the tag alone
-pub none-told : (r : ℕ) (b : List ℕ) (e : Ends) → OneOf (2 ∷ 3 ∷ []) (tagOf the-type e)
-    → toldBy r b e ≡ Gathered.refused CopiesCrossed
+pub none-told : (r : ℕ) (c : Choice) (b : List ℕ) (e : Ends) → OneOf (2 ∷ 3 ∷ []) (tagOf the-type e)
+    → toldBy r c b e ≡ Gathered.refused CopiesCrossed
 unfolding toldBy
-none-told r b (Same c) h = absurd (⊎-elim (λ e. omega (arith, e)) (λ e. omega (arith, e)) h)
-none-told r b (Ends.Between low high) h = absurd (⊎-elim (λ e. omega (arith, e)) (λ e. omega (arith, e)) h)
-none-told r b Ends.Crossed h = refl
-none-told r b (Ends.Refused why) h = refl
+none-told r c b (Same n) h = absurd (⊎-elim (λ e. omega (arith, e)) (λ e. omega (arith, e)) h)
+none-told r c b (Ends.Between low high) h = absurd (⊎-elim (λ e. omega (arith, e)) (λ e. omega (arith, e)) h)
+none-told r c b Ends.Crossed h = refl
+none-told r c b (Ends.Refused why) h = refl
 
-told-at : (F : Form) (r : ℕ) (b one two : List ℕ) (x : Comparison) →
-    toldBy r b (endsAt (F .bases) one two x) ≡ endCount F r b one two x
+told-at : (F : Form) (r : ℕ) (c : Choice) (b one two : List ℕ) (x : Comparison) →
+    toldBy r c b (endsAt (F .bases) one two x) ≡ endCount F r c b one two x
 unfolding toldBy endCount
-told-at F r b one two Equal = refl
-told-at F r b one two (Parted p) = refl
-told-at F r b one two Crossed = refl
+told-at F r c b one two Equal = refl
+told-at F r c b one two (Parted p) = refl
+told-at F r c b one two Crossed = refl
 
 -- whole and valid digits have ends
 ends-valid :
@@ -85,14 +88,17 @@ ends-valid F digits w =
 pub count-told :
     (F : Form) (who room : ℕ) (s : Stage) (last : ℕ) (digits b : List ℕ) (e : Ends) → Whole F digits →
     e ≡ endsOf (F .bases) (copyOne F digits) (ownTwo F digits) →
-    onGathered F room (before s last digits) b (toldBy who b e) ≡ countEnded F who room s last digits b
+    onGathered F room (before s last digits) b (toldBy who (choiceOf (s .choice)) b e) ≡ countEnded F who room s last digits b
 count-told F who room s last digits b e w is =
-    ap (λ (y : Ends). onGathered F room (before s last digits) b (toldBy who b y)) (is ∙ ends-valid F digits w)
+    ap (λ (y : Ends). onGathered F room (before s last digits) b (toldBy who (choiceOf (s .choice)) b y)) (is ∙ ends-valid F digits w)
     ∙ ap (onGathered F room (before s last digits) b)
-    (told-at F who b _ _ (compare (copyOne F digits) (copyTwo F digits)))
+    (told-at F who (choiceOf (s .choice)) b _ _ (compare (copyOne F digits) (copyTwo F digits)))
 
 -- ONE STEP
 module _ (F : Form) (s : Stage) (l : List ℕ) (at : AtCount F (readerOf s l)) (d : ℕ) where
+  abbrev c : Choice
+  c = at .choice
+
   abbrev ds : List ℕ
   ds = at .ds
 
@@ -106,7 +112,7 @@ module _ (F : Form) (s : Stage) (l : List ℕ) (at : AtCount F (readerOf s l)) (
   abbrev after : List ℕ
   after = set l slot d
 
-  step-is : (who room : ℕ) (b : List ℕ) → onGathered F room x b (gather F who d (ofCount ds) b)
+  step-is : (who room : ℕ) (b : List ℕ) → onGathered F room x b (gather F who d (ofCount c ds) b)
       ≡ stepped F who d room x b
   step-is who room b = ap (λ σ. onGathered F room x b (gather F who d σ b)) (sym (at .is))
 
@@ -121,7 +127,7 @@ module _ (F : Form) (s : Stage) (l : List ℕ) (at : AtCount F (readerOf s l)) (
   pub count-on :
       (who room : ℕ) (b : List ℕ) → s .steps + 1 < countSteps F →
       left (Done Nothing)
-      (readerOf (stageAt (s .kind) (s .allowed) (s .finished) (s .steps + 1)) after) b
+      (readerOf (stageAt (s .kind) (s .allowed) (s .finished) (s .choice) (s .steps + 1)) after) b
       ≡ stepped F who d room x b
   unfolding storedReading gather
   count-on who room b h =
@@ -129,10 +135,10 @@ module _ (F : Form) (s : Stage) (l : List ℕ) (at : AtCount F (readerOf s l)) (
       let g : suc (length ds) < countSteps F = omega arith in
       sym (sym (step-is who room b)
       ∙ ap (onGathered F room x b) (rw (lt-ltb (suc (length ds)) (countSteps F) g))
-      ∙ quiet F room x b (ofCount (d ∷ ds)) b
+      ∙ quiet F room x b (ofCount c (d ∷ ds)) b
       ∙ ap (λ (y : Reader). left (Done Nothing) y b)
-      (same-fields (storedReading F (ofCount (d ∷ ds))) _ (sym (at .numbers .0)) (sym (at .numbers .1))
-      (sym (at .numbers .2)) (omega arith) (sym after-is)))
+      (same-fields (storedReading F (ofCount c (d ∷ ds))) _ (sym (at .numbers .0)) (sym (at .numbers .1))
+      (sym (at .numbers .2)) (sym (at .chosen)) (omega arith) (sym after-is)))
 
   -- the last one
   module _ (h : countSteps F ≤ s .steps + 1) where
@@ -156,23 +162,26 @@ module _ (F : Form) (s : Stage) (l : List ℕ) (at : AtCount F (readerOf s l)) (
 
     pub count-whole : Fits F (loadReading F x) d → Whole F after
     count-whole t =
-        let low : Fits F (ofCount ds) d = subst (λ σ. Fits F σ d) (at .is) t in
+        let low : Fits F (ofCount c ds) d = subst (λ σ. Fits F σ d) (at .is) t in
         record {
           good = good-counts F (at .form);
           places = at .places .1;
           long = length-set l _ d ∙ at .long;
-          one = rw one (valid-complete (valid-a F d ds (at .few, at .low) low (omega (arith, full))));
-          two = rw two (valid-complete (valid-b F d ds (at .few, at .low) low (omega (arith, full)) (at .shared)));
+          one = rw one (valid-complete (valid-a F d c ds (at .few, at .low) low (omega (arith, full))));
+          two = rw two (valid-complete (valid-b F d c ds (at .few, at .low) low (omega (arith, full)) (at .shared)));
         }
 
     pub count-last : (who room : ℕ) (b : List ℕ) → countEnded F who room s slot after b ≡ stepped F who d room x b
     unfolding gather
     count-last who room b =
         let g : countSteps F ≤ suc (length ds) = omega (arith, full) in
-        ap₂ (λ (y z : List ℕ). onGathered F room (readerOf s (set after slot 0)) b (endCount F who b y z (compare y z)))
+        ap₂ (λ (y z : List ℕ). onGathered F room (readerOf s (set after slot 0)) b (endCount F who (choiceOf (s .choice)) b y z (compare y z)))
         one two
         ∙ ap (λ (y : List ℕ). onGathered F room (readerOf s y) b
-        (endCount F who b (copyA (own F) (d ∷ ds)) (copyB (m F) (d ∷ ds))
+        (endCount F who (choiceOf (s .choice)) b (copyA (own F) (d ∷ ds)) (copyB (m F) (d ∷ ds))
         (compare (copyA (own F) (d ∷ ds)) (copyB (m F) (d ∷ ds))))) back
+        ∙ ap (λ (e : Choice). onGathered F room x b
+        (endCount F who e b (copyA (own F) (d ∷ ds)) (copyB (m F) (d ∷ ds))
+        (compare (copyA (own F) (d ∷ ds)) (copyB (m F) (d ∷ ds))))) (ap choiceOf (at .chosen) ∙ load-choice c)
         ∙ ap (onGathered F room x b) (rw (le-ltb (suc (length ds)) (countSteps F) g))
         ∙ step-is who room b

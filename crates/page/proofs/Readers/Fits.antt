@@ -20,7 +20,7 @@ use Rattle.page.proofs.Readers.Buffers.{lent-part, part-long}
 -- the same condition in the protocol's proofs and in this crate's contracts
 above : (F : Form) (σ : Reading) (d : ℕ) → Below F σ d → Fits F σ d
 above F idle d h = h
-above F (ofCount ds) d h = h
+above F (ofCount c ds) d h = h
 above F (ofRecord a f s ds) d h = h
 
 module _ (F : Form) (page : List ℕ) (x : Reader) (bs : List ℕ) (i : ℕ) (c : Command)

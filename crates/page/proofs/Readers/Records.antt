@@ -70,7 +70,7 @@ module _ (F : Form) (s : Stage) (l : List ℕ) (at : AtRecord F (readerOf s l)) 
       ∙ quiet F room x b (ofRecord (s .allowed) (s .finished) (suc (s .steps)) es) b′
       ∙ ap (λ (y : Reader). left (Done Nothing) y b′)
       (same-fields (storedReading F (ofRecord (s .allowed) (s .finished) (suc (s .steps)) es)) _ (sym (at .kind))
-      refl refl (omega arith) (sym e)))
+      refl refl (sym (at .none)) (omega arith) (sym e)))
 
   -- A STEP THAT ENDS NOTHING
   byte-on :

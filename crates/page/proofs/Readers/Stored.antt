@@ -34,11 +34,12 @@ unfolding onGathered gather
 step-idle F x held who d room b k =
     ap (λ σ. onGathered F room x b (gather F who d σ b)) (sym (at-idle F x held k))
 
--- a reader is its four numbers and its digits
+-- a reader is its five numbers and its digits
 pub same-fields :
     (x y : Reader) → x .stage .kind ≡ y .stage .kind → x .stage .allowed ≡ y .stage .allowed →
-    x .stage .finished ≡ y .stage .finished → x .stage .steps ≡ y .stage .steps → x .digits ≡ y .digits → x ≡ y
-same-fields x y k a f s d = λ i. readerOf (stageAt (k i) (a i) (f i) (s i)) (d i)
+    x .stage .finished ≡ y .stage .finished → x .stage .choice ≡ y .stage .choice → x .stage .steps ≡ y .stage .steps →
+    x .digits ≡ y .digits → x ≡ y
+same-fields x y k a f c s d = λ i. readerOf (stageAt (k i) (a i) (f i) (c i) (s i)) (d i)
 
 -- a read that ends has room in the log, or not
 module _ (F : Form) (room n : ℕ) (o : Outcome) (size : n ≡ length (entry o)) (x : Reader) (b : List ℕ) where
@@ -48,6 +49,6 @@ module _ (F : Form) (room n : ℕ) (o : Outcome) (size : n ≡ length (entry o))
 
   pub has-room :
       (l : List ℕ) → n ≤ room → l ≡ replicate 16 0 →
-      left (Done o) (readerOf (stageAt 0 0 0 0) l) b ≡ finished F room o x b
+      left (Done o) (readerOf (stageAt 0 0 0 0 0) l) b ≡ finished F room o x b
   unfolding onGathered storedReading
   has-room l h e = rw (← size, le-ltb room n h, e)

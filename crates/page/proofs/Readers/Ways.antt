@@ -28,7 +28,7 @@ module _ (F : Form) (x : Reader) (held : Held F x) where
     where
       go : (σ : Reading) → loadReading F x ≡ σ → storedReading F σ ≡ x → loadReading F x ≡ idle
       go idle p e = p
-      go (ofCount ds) p e = absurd (omega (arith, ap (λ (y : Reader). y .stage .kind) e))
+      go (ofCount c ds) p e = absurd (omega (arith, ap (λ (y : Reader). y .stage .kind) e))
       go (ofRecord a f s ds) p e = absurd (omega (arith, ap (λ (y : Reader). y .stage .kind) e))
 
   pub not-busy : x .stage .kind ≡ 0 → busyReading (loadReading F x) ≡ false
@@ -40,7 +40,7 @@ module _ (F : Form) (x : Reader) (held : Held F x) where
     where
       go : (σ : Reading) → storedReading F σ ≡ x → busyReading σ ≡ true
       go idle e = absurd (k (ap (λ (y : Reader). y .stage .kind) (sym e)))
-      go (ofCount ds) e = refl
+      go (ofCount c ds) e = refl
       go (ofRecord a f s ds) e = refl
 
   pub held-long : length (x .digits) ≡ 16
@@ -53,7 +53,7 @@ module _ (F : Form) (x : Reader) (held : Held F x) where
     where
       go : (σ : Reading) → storedReading F σ ≡ x → GoodReading F σ → x .stage .steps < 18446744073709551615
       go idle e g = omega (arith, ap (λ (y : Reader). y .stage .steps) e)
-      go (ofCount ds) e g = omega (arith, ap (λ (y : Reader). y .stage .steps) e, g .0, range .places)
+      go (ofCount c ds) e g = omega (arith, ap (λ (y : Reader). y .stage .steps) e, g .0, range .places)
       go (ofRecord a f s ds) e g =
           omega (arith, ap (λ (y : Reader). y .stage .steps) e, g .1, range .versions, range .bytes)
 
@@ -63,16 +63,18 @@ module _ (F : Form) (x : Reader) (held : Held F x) where
     where
       go : (σ : Reading) → loadReading F x ≡ σ → storedReading F σ ≡ x → GoodReading F σ → AtCount F x
       go idle p e g = absurd (omega (arith, ap (λ (y : Reader). y .stage .kind) e))
-      go (ofCount ds) p e g =
+      go (ofCount c ds) p e g =
           let r = range .places in
           record {
             form = held .form;
             places = range .places;
             shared = range .shared;
+            choice = c;
             ds = ds;
             is = p;
             numbers =
                 (k, ap (λ (y : Reader). y .stage .allowed) (sym e), ap (λ (y : Reader). y .stage .finished) (sym e));
+            chosen = ap (λ (y : Reader). y .stage .choice) (sym e);
             steps = ap (λ (y : Reader). y .stage .steps) (sym e);
             digits = ap (λ (y : Reader). y .digits) (sym e);
             long = held-long;
@@ -87,7 +89,7 @@ module _ (F : Form) (x : Reader) (held : Held F x) where
     where
       go : (σ : Reading) → loadReading F x ≡ σ → storedReading F σ ≡ x → GoodReading F σ → AtRecord F x
       go idle p e g = absurd (k (ap (λ (y : Reader). y .stage .kind) (sym e)))
-      go (ofCount ds) p e g = absurd (l (ap (λ (y : Reader). y .stage .kind) (sym e)))
+      go (ofCount c ds) p e g = absurd (l (ap (λ (y : Reader). y .stage .kind) (sym e)))
       go (ofRecord a f s ds) p e g =
           let r = range .versions in
           subst (λ (y : Reader). AtRecord F y) e
@@ -97,6 +99,7 @@ module _ (F : Form) (x : Reader) (held : Held F x) where
             ds = ds;
             is = ap (loadReading F) e ∙ p;
             kind = refl;
+            none = refl;
             digits = refl;
             long = ap (λ (y : Reader). length (y .digits)) e ∙ held-long;
             left = g .0;

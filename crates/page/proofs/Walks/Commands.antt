@@ -25,7 +25,7 @@ command-range (WriteCount c) vs is =
     LL.owed TC.the-type TC′.the-laws c _ (EL.owed TX.the-type TX′.the-laws (WriteCount c) vs is .0) .0 .1
 command-range (WriteRecord i) vs is = EL.owed TX.the-type TX′.the-laws (WriteRecord i) vs is .0 .1
 command-range WriterStep vs is = tt
-command-range (BeginCountRead r) vs is = EL.owed TX.the-type TX′.the-laws (BeginCountRead r) vs is .0 .1
+command-range (BeginCountRead r c) vs is = EL.owed TX.the-type TX′.the-laws (BeginCountRead r c) vs is .0 .1
 command-range (BeginRecordRead r k) vs is =
     let f = EL.owed TX.the-type TX′.the-laws (BeginRecordRead r k) vs is in (f .0 .1, f .1 .0 .1)
 command-range (ReaderStep r) vs is = EL.owed TX.the-type TX′.the-laws (ReaderStep r) vs is .0 .1

@@ -76,7 +76,7 @@ module _ (rs : List Reading) (bs : List (List ℕ)) where
         (first (leb (product (versionBases F)) (suc (value (versionBases F) (look page (v1 F))))) VersionsExhausted _ _
         (refl, refl)))
     alone w WriterStep h = unfold carry in step w w
-    alone w (BeginCountRead r) h = no-one (none-counts F S _ r h) (none-counts F S _ r h)
+    alone w (BeginCountRead r c) h = no-one (none-counts F S _ r c h) (none-counts F S _ r c h)
     alone w (BeginRecordRead r k) h = no-one (none-records F S _ r k h) (none-records F S _ r k h)
     alone w (ReaderStep r) h = no-one (none-steps F S _ r h) (none-steps F S _ r h)
     alone w (Cancel r) h = no-one (none-cancels F S _ r h) (none-cancels F S _ r h)

@@ -8,6 +8,7 @@ use native.Mathlib.Omega.{arith}
 use borrow.Author.Tests.{le-leb}
 use denote.Enum.Declared.{tagOf}
 use types.Run.{OneOf}
+use Rattle.radix.specs.declared.Choice.{Choice}
 use Rattle.protocol.specs.Form.{Form}
 use Rattle.protocol.specs.State.{State, stateOf}
 use Rattle.protocol.specs.Step.{refused, carry}
@@ -33,9 +34,9 @@ use Rattle.page.specs.Writes.{NoReader, wrote, onProtocol, writes, write
 use Rattle.page.proofs.Writes.Writers.{nothing-pending}
 
 module _ (F : Form) (S : List ℕ) (σ : State) (r : ℕ) where
-  pub none-counts : NoReader F (BeginCountRead r) → carry F S σ (BeginCountRead r) ≡ refused NoSuch
+  pub none-counts : (c : Choice) → NoReader F (BeginCountRead r c) → carry F S σ (BeginCountRead r c) ≡ refused NoSuch
   unfolding carry whoseOf
-  none-counts h = rw (le-leb (F .readers) r h)
+  none-counts c h = rw (le-leb (F .readers) r h)
 
   pub none-records : (k : ℕ) → NoReader F (BeginRecordRead r k) → carry F S σ (BeginRecordRead r k) ≡ refused NoSuch
   unfolding carry whoseOf
@@ -78,7 +79,7 @@ module _ (F : Form) (S page : List ℕ) (w : Writer) (kept : storedWriting (load
   refuses (WriteCount c) h none still is = absurd (omega (arith, last-five 0 h))
   refuses (WriteRecord i) h none still is = absurd (omega (arith, last-five 1 h))
   refuses WriterStep h none still is = rw (is .0 refl) (nothing-pending F S page w kept still)
-  refuses (BeginCountRead r) h none still is = rw (reader-why is (omega arith), none-counts F S σ r none)
+  refuses (BeginCountRead r c) h none still is = rw (reader-why is (omega arith), none-counts F S σ r c none)
   refuses (BeginRecordRead r k) h none still is = rw (reader-why is (omega arith), none-records F S σ r k none)
   refuses (ReaderStep r) h none still is = rw (reader-why is (omega arith), none-steps F S σ r none)
   refuses (Cancel r) h none still is = rw (reader-why is (omega arith), none-cancels F S σ r none)

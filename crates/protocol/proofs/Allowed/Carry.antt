@@ -83,12 +83,12 @@ module _ (F : Form) (S : List ℕ) (range : InRange F) (σ : State) (fine : Fine
         not-false (inRecords F S i) a,
       ))))
   kept WriterStep = writer-kept F S range σ (σ .writing) fine (fine .good .writing)
-  kept (BeginCountRead r) =
+  kept (BeginCountRead r ch) =
       unless F S (leb (F .readers) r) NoSuch _
       (λ a.
       unless F S (busyReading (readingOf σ r)) Busy _
       (λ b.
-      becomes-kept r (ofCount []) (leb-false (F .readers) r a) (begun-count F range)))
+      becomes-kept r (ofCount ch []) (leb-false (F .readers) r a) (begun-count F range ch)))
   kept (BeginRecordRead r allowed) =
       unless F S (leb (F .readers) r || eqb allowed 0) NoSuch _
       (λ a.

@@ -6,6 +6,7 @@ use Prim.Native.Nat.{ℕ, suc, _-_, _≤_, _<_}
 use native.Mathlib.Omega.{arith}
 use lib.ListN.{length, take, drop, length-take}
 use lib.Seq.{drop-at, ext-getD, getD-take}
+use Rattle.radix.specs.declared.Choice.{Choice}
 use Rattle.radix.specs.Digits.{valid, Valid, none, more}
 use Rattle.radix.proofs.Theorems.RoundTrip.{valid-sound}
 use Rattle.radix.proofs.Theorems.Prefix.{valid-take, valid-drop}
@@ -44,13 +45,13 @@ module _ (F : Form) where
       getD-take (m F) (countBases F) k 0 l ∙ second-base F one k l)
 
   -- the last step gathered d
-  module _ (d : ℕ) (ds : List ℕ) (reading : GoodReading F (ofCount ds)) (low : Fits F (ofCount ds) d)
+  module _ (d : ℕ) (ch : Choice) (ds : List ℕ) (reading : GoodReading F (ofCount ch ds)) (low : Fits F (ofCount ch ds) d)
       (last : countSteps F ≤ suc (length ds)) where
     all-valid : Valid (countBases F) (d ∷ ds)
     all-valid =
         let none : countSteps F - suc (length ds) ≡ 0 = omega arith in
         valid-sound (countBases F) (d ∷ ds)
-        (subst (λ (i : ℕ). valid (drop i (countBases F)) (d ∷ ds) ≡ true) none (one-more F d ds reading low))
+        (subst (λ (i : ℕ). valid (drop i (countBases F)) (d ∷ ds) ≡ true) none (one-more F d ch ds reading low))
 
     pub valid-a : Valid (F .bases) (copyA (own F) (d ∷ ds))
     valid-a = rw bases-a at (valid-reverse (valid-drop (own F) all-valid))

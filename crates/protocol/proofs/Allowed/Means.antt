@@ -43,7 +43,7 @@ GoodWriting F S (aRecord v i k) =
 
 abbrev pub GoodReading : Form → Reading → Type 0
 GoodReading F idle = Unit {0}
-GoodReading F (ofCount ds) =
+GoodReading F (ofCount ch ds) =
     (length ds < countSteps F)
     × (valid (drop (countSteps F - length ds) (countBases F)) ds ≡ true)
 GoodReading F (ofRecord a f s ds) =
@@ -159,7 +159,7 @@ module _ (F : Form) where
   pub reading-means : (x : Reading) → allowedReading F x ≡ true → GoodReading F x
   unfolding allowedReading
   reading-means idle h = tt
-  reading-means (ofCount ds) h =
+  reading-means (ofCount ch ds) h =
       let order = drop (countSteps F - length ds) (countBases F) in
       let (p, r) = both (ltb (length ds) (countSteps F)) (valid order ds) h in
       (ltb-true (length ds) (countSteps F) p, r)
@@ -171,7 +171,7 @@ module _ (F : Form) where
   pub reading-holds : (x : Reading) → GoodReading F x → allowedReading F x ≡ true
   unfolding allowedReading
   reading-holds idle g = refl
-  reading-holds (ofCount ds) g = together (lt-ltb (length ds) (countSteps F) (g .0)) (g .1)
+  reading-holds (ofCount ch ds) g = together (lt-ltb (length ds) (countSteps F) (g .0)) (g .1)
   reading-holds (ofRecord a f s ds) g =
       together (together (together (lt-ltb f a (g .0)) (lt-ltb s (recordSteps F) (g .1)))
       (eq-eqb (length ds) (versionDigits F s) (g .2))) (g .3)

@@ -9,6 +9,7 @@ use lib.Dec.{eqb, ltb, leb}
 use lib.ListN.{length, drop, getD, length-replicate, length-set, drop-of-length-le, getD-replicate}
 use lib.Seq.{drop-cons}
 use borrow.Author.Tests.{ltb-true, ltb-false, lt-ltb, leb-true, leb-false}
+use Rattle.radix.specs.declared.Choice.{Choice}
 use Rattle.radix.specs.Digits.{value, valid}
 use Rattle.radix.specs.Copies.{compare}
 use Rattle.radix.specs.declared.Comparison.{Comparison}
@@ -44,7 +45,7 @@ GoodGathered F (gathered x b o) = GoodReading F x × (length b ≡ F .n)
 -- the digit that a reader is about to gather is below its base; a byte of the record may be anything
 abbrev pub Fits : Form → Reading → ℕ → Type 0
 Fits F idle d = Unit {0}
-Fits F (ofCount ds) d = d < getD (countBases F) (countSteps F - suc (length ds)) 0
+Fits F (ofCount ch ds) d = d < getD (countBases F) (countSteps F - suc (length ds)) 0
 Fits F (ofRecord a f s ds) d = (s < F .q) ⊎ (F .q + F .n ≤ s) → d < F .base
 
 outside : (a b c : ℕ) → leb a b && ltb b c ≡ false → (b < a) ⊎ (c ≤ b)
@@ -74,15 +75,15 @@ module _ (F : Form) where
 
     pub fits : (x : Reading) → GoodReading F x → Fits F x (getD page (nextPosition F x) 0)
     fits idle g = tt
-    fits (ofCount ds) g =
+    fits (ofCount ch ds) g =
         let p : ℕ = countSteps F - suc (length ds) in
         rw (countRead F (length ds) p (omega arith)) (good .counts p (omega (arith, length-countBases F)))
     fits (ofRecord a f s ds) g = version-fits s (g .1)
 
   -- one more digit of a count, the last one too
-  pub one-more : (d : ℕ) (ds : List ℕ) → GoodReading F (ofCount ds) → Fits F (ofCount ds) d
+  pub one-more : (d : ℕ) (ch : Choice) (ds : List ℕ) → GoodReading F (ofCount ch ds) → Fits F (ofCount ch ds) d
       → valid (drop (countSteps F - suc (length ds)) (countBases F)) (d ∷ ds) ≡ true
-  one-more d ds g l =
+  one-more d ch ds g l =
       let p : ℕ = countSteps F - suc (length ds) in
       let same : suc p ≡ countSteps F - length ds = omega arith in
       let inside : p < length (countBases F) = omega (arith, length-countBases F) in
@@ -90,18 +91,18 @@ module _ (F : Form) where
       rw (drop-cons (countBases F) p 0 inside) (together (lt-ltb d (getD (countBases F) p 0) l) rest)
 
 module _ (F : Form) (range : InRange F) where
-  pub begun-count : GoodReading F (ofCount [])
-  begun-count =
+  pub begun-count : (ch : Choice) → GoodReading F (ofCount ch [])
+  begun-count ch =
       let all : length (countBases F) ≤ countSteps F - 0 = omega (arith, length-countBases F) in
       (omega (arith, range .places), rw (drop-of-length-le (countBases F) all))
 
   -- what a step makes of the digit
   module _ (r d : ℕ) (buffer : List ℕ) (full : length buffer ≡ F .n) where
-    count-ends : (a b : List ℕ) (x : Comparison) → GoodGathered F (endCount F r buffer a b x)
+    count-ends : (ch : Choice) (a b : List ℕ) (x : Comparison) → GoodGathered F (endCount F r ch buffer a b x)
     unfolding endCount
-    count-ends a b Equal = (tt, full)
-    count-ends a b (Parted p) = (tt, full)
-    count-ends a b Crossed = tt
+    count-ends ch a b Equal = (tt, full)
+    count-ends ch a b (Parted p) = (tt, full)
+    count-ends ch a b Crossed = tt
 
     attempt-ends : (a f : ℕ) (ds : List ℕ) → GoodGathered F (endAttempt F r a f buffer ds)
     unfolding endAttempt
@@ -114,9 +115,9 @@ module _ (F : Form) (range : InRange F) where
         (λ l. ((ltb-true (suc f) a l, omega (arith, range .versions), omega arith, refl), full))
         (λ l. (tt, length-replicate (F .n) 0)))
 
-    more-count : (ds : List ℕ) → GoodReading F (ofCount ds) → suc (length ds) < countSteps F → Fits F (ofCount ds) d
-        → GoodReading F (ofCount (d ∷ ds))
-    more-count ds g h l = (h, one-more F d ds g l)
+    more-count : (ch : Choice) (ds : List ℕ) → GoodReading F (ofCount ch ds) → suc (length ds) < countSteps F → Fits F (ofCount ch ds) d
+        → GoodReading F (ofCount ch (d ∷ ds))
+    more-count ch ds g h l = (h, one-more F d ch ds g l)
 
     -- a step outside the bytes gathers one more digit of a version
     more-version : (s : ℕ) (ds : List ℕ) → (s < F .q) ⊎ (F .q + F .n ≤ s) → length ds ≡ versionDigits F s
@@ -127,11 +128,11 @@ module _ (F : Form) (range : InRange F) where
     pub gather-good : (x : Reading) → GoodReading F x → Fits F x d → GoodGathered F (gather F r d x buffer)
     unfolding gather
     gather-good idle g l = tt
-    gather-good (ofCount ds) g l =
+    gather-good (ofCount ch ds) g l =
         by-cond (GoodGathered F) (ltb (suc (length ds)) (countSteps F))
-        (λ h. (more-count ds g (ltb-true (suc (length ds)) (countSteps F) h) l, full))
+        (λ h. (more-count ch ds g (ltb-true (suc (length ds)) (countSteps F) h) l, full))
         (λ h.
-        count-ends (copyA (own F) (d ∷ ds)) (copyB (m F) (d ∷ ds))
+        count-ends ch (copyA (own F) (d ∷ ds)) (copyB (m F) (d ∷ ds))
         (compare (copyA (own F) (d ∷ ds)) (copyB (m F) (d ∷ ds))))
     gather-good (ofRecord a f s ds) g l =
         by-cond (GoodGathered F) (leb (F .q) s && ltb s (F .q + F .n))

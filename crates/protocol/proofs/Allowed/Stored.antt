@@ -14,7 +14,7 @@ pub length-storedReading :
     (F : Form) → InRange F → (x : Reading) → GoodReading F x → length (storedReading F x .digits) ≡ 16
 unfolding storedReading
 length-storedReading F range idle g = refl
-length-storedReading F range (ofCount ds) g =
+length-storedReading F range (ofCount ch ds) g =
     length-storedDigits (m F) (own F) ds (length ds - m F) (omega (arith, range .places)) (omega (arith, g .0)) refl
 length-storedReading F range (ofRecord a f s ds) g =
     length-storedDigits (F .q) (F .q) ds (length ds - F .q) (omega (arith, range .versions)) (omega (arith, g .1, g .2))

@@ -46,8 +46,8 @@ module _ (F : Form) (x : Count) (r₀ S : List ℕ) (ok : Proper F r₀) (story 
       (onGathered σ r (gather F r (getD (σ .page) (nextPosition F st) 0) st (bufferOf σ r)))
   unfolding gather onGathered
   steps-reader r reader st rd idles c k = usual (Refused NothingPending) (omega arith) (omega arith)
-  steps-reader r reader st rd (readsCount {ds} {ts} same low) c k =
-      steps-count F x r₀ ok story σ h inv r reader ds ts c low
+  steps-reader r reader st rd (readsCount {choice} {ds} {ts} same low) c k =
+      steps-count F x r₀ ok story σ h inv r reader choice ds ts c low
   steps-reader r reader st rd (readsRecord {a} {f} {s} {ds} {es} {ts} before same low more) c k =
       steps-attempt F x r₀ ok story σ h inv r reader a f s ds es ts k low before more
 
@@ -62,13 +62,13 @@ module _ (F : Form) (x : Count) (r₀ S : List ℕ) (ok : Proper F r₀) (story 
   one-command WriterStep =
       steps-writer F x r₀ S ok story (σ .page) (σ .readings) (σ .buffers) (h .orderly) (h .now) (h .reads)
       (h .countReads) (h .attempts) (σ .writing) (h .pending) (h .counts) (h .records) inv (inv .writer) stock
-  one-command (BeginCountRead r) =
-      by-cond (Goes F x r₀ S story h (BeginCountRead r)) (leb (F .readers) r)
+  one-command (BeginCountRead r ch) =
+      by-cond (Goes F x r₀ S story h (BeginCountRead r ch)) (leb (F .readers) r)
       (λ a. usual (Refused NoSuch) (omega arith) (omega arith))
       (λ a.
-      by-cond (Goes F x r₀ S story h (BeginCountRead r)) (busyReading (readingOf σ r))
+      by-cond (Goes F x r₀ S story h (BeginCountRead r ch)) (busyReading (readingOf σ r))
       (λ b. usual (Refused Busy) (omega arith) (omega arith))
-      (λ b. begins-count-read F x r₀ ok story σ h inv r (leb-false (F .readers) r a) S))
+      (λ b. begins-count-read F x r₀ ok story σ h inv r (leb-false (F .readers) r a) S ch))
   one-command (BeginRecordRead r allowed) =
       by-cond (Goes F x r₀ S story h (BeginRecordRead r allowed)) (leb (F .readers) r || eqb allowed 0)
       (λ a. usual (Refused NoSuch) (omega arith) (omega arith))

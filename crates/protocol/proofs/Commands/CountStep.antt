@@ -11,7 +11,9 @@ use borrow.Author.Tests.{eq-eqb, ne-eqb, ltb-true, ltb-false}
 use Rattle.radix.specs.declared.Count.{Count}
 use Rattle.radix.specs.declared.Comparison.{Comparison}
 use Rattle.radix.specs.declared.Comparison.the-variants.{Equal, Parted, Crossed}
-use Rattle.radix.specs.Copies.{compare, Choice, shown}
+use Rattle.radix.specs.declared.Choice.{Choice}
+use Rattle.radix.specs.declared.Choice.the-variants.{Low, High}
+use Rattle.radix.specs.Copies.{compare, shown}
 use Rattle.protocol.specs.Form.{Form, m, own, countSteps}
 use Rattle.protocol.specs.Layout.{countReadOrder}
 use Rattle.protocol.specs.State.{idle, ofCount, State, bufferOf}
@@ -49,7 +51,7 @@ use Rattle.protocol.proofs.Commands.Reader.{
 }
 
 module _ (F : Form) (x : Count) (r₀ : List ℕ) (ok : Proper F r₀) (story : List Event) (σ : State) (h : History)
-    (inv : Inv F x r₀ story σ h) (r : ℕ) (reader : r < F .readers) (ds ts : List ℕ)
+    (inv : Inv F x r₀ story σ h) (r : ℕ) (reader : r < F .readers) (ch : Choice) (ds ts : List ℕ)
     (counting : Counting F x (h .now) (countAt x h) (h .counts) ds ts) (few : length ds < countSteps F) where
   abbrev buffer : List ℕ
   buffer = bufferOf σ r
@@ -62,7 +64,7 @@ module _ (F : Form) (x : Count) (r₀ : List ℕ) (ok : Proper F r₀) (story : 
 
   -- what follows from what it gathered
   abbrev Comes : Gathered → Type 0
-  Comes g = GoesTo F x r₀ story (λ acc. readerSteps F h r acc (Read.countRead ts)) (onGathered σ r g)
+  Comes g = GoesTo F x r₀ story (λ acc. readerSteps F h r acc (Read.countRead ch ts)) (onGathered σ r g)
 
   more : Counting F x (suc (h .now)) (countAt x h) (h .counts) ds′ us
   more =
@@ -77,7 +79,7 @@ module _ (F : Form) (x : Count) (r₀ : List ℕ) (ok : Proper F r₀) (story : 
 
   module _ (full : suc (length ds) ≡ countSteps F) where
     abbrev y : CountRead
-    y = record { reader = r; steps = us }
+    y = record { reader = r; choice = ch; steps = us }
 
     -- with an outcome as the claim has it
     ends-as :
@@ -105,30 +107,30 @@ module _ (F : Form) (x : Count) (r₀ : List ℕ) (ok : Proper F r₀) (story : 
 
     either : (a b : Count) → low ≤ a .0 → a .0 < b .0 → b .0 ≤ high → (choice : Choice) →
         InSpan (countSteps F) x (h .counts) y (shown choice a b)
-    either a b l lt g Choice.low = record { low = l; high = omega arith }
-    either a b l lt g Choice.high = record { low = omega arith; high = g }
+    either a b l lt g Low = record { low = l; high = omega arith }
+    either a b l lt g High = record { low = omega arith; high = g }
 
     -- the copies are not crossed
     ends-count :
         (c : Comparison) →
         Within (Wrote F x (lastOf us) (h .counts)) (F .bases) low high (copyA (own F) ds′) (copyB (m F) ds′) c →
-        Comes (endCount F r buffer (copyA (own F) ds′) (copyB (m F) ds′) c)
+        Comes (endCount F r ch buffer (copyA (own F) ds′) (copyB (m F) ds′) c)
     unfolding endCount
     ends-count Equal w = ends-as _ (refl, record { low = w .0; high = w .1 }, w .2) (inl (refl, refl))
-    ends-count (Parted p) w = ends-as _ (refl, w .1, either _ _ (w .0) (w .1) (w .2)) (inl (refl, refl))
+    ends-count (Parted p) w = ends-as _ (refl, refl, w .1, either _ _ (w .0) (w .1) (w .2)) (inl (refl, refl))
     ends-count Crossed w = absurd w
 
   pub steps-count :
-      GoesTo F x r₀ story (λ acc. readerSteps F h r acc (Read.countRead ts))
+      GoesTo F x r₀ story (λ acc. readerSteps F h r acc (Read.countRead ch ts))
       (onGathered σ r
-      (gather F r (getD (σ .page) (getD (countReadOrder F) (length ds) 0) 0) (ofCount ds) (bufferOf σ r)))
+      (gather F r (getD (σ .page) (getD (countReadOrder F) (length ds) 0) 0) (ofCount ch ds) (bufferOf σ r)))
   unfolding gather onGathered readerSteps isAccepted
   steps-count =
       by-cond Comes (ltb (suc (length ds)) (countSteps F))
       (λ a.
       let l : suc (length ds) < countSteps F = ltb-true (suc (length ds)) (countSteps F) a in
       rw (ne-eqb (suc (length ts)) (countSteps F) (omega (arith, counting .same)))
-      (goes-on F x r₀ ok story σ h inv r reader (ofCount ds′) (Read.countRead us) buffer
+      (goes-on F x r₀ ok story σ h inv r reader (ofCount ch ds′) (Read.countRead ch us) buffer
       (readsCount (ap suc (counting .same)) l) (inv .records .buffered r reader) more tt))
       (λ a.
       let full : suc (length ds) ≡ countSteps F = omega (arith, ltb-false (suc (length ds)) (countSteps F) a) in

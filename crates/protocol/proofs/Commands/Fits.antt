@@ -136,8 +136,8 @@ module _ (F : Form) (x : Count) (r₀ S : List ℕ) (story : List Event) (σ : S
       by-cond P (leb (product (versionBases F)) (suc (value (versionBases F) (look (σ .page) (v1 F))))) (λ d. tt)
       (λ d. together (not-false (inRecords F S i) a) (at-rest b))))
   carried-fits WriterStep = writer-fits F S σ (inv .writer)
-  carried-fits (BeginCountRead r) =
-      let P = Carried (fits F S h (BeginCountRead r)) in
+  carried-fits (BeginCountRead r ch) =
+      let P = Carried (fits F S h (BeginCountRead r ch)) in
       by-cond P (leb (F .readers) r) (λ a. tt)
       (λ a.
       by-cond P (busyReading (readingOf σ r)) (λ b. tt) (λ b. together (there r a) (no-read r b)))

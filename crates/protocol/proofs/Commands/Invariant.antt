@@ -113,7 +113,7 @@ still-explained h h′ more t Nothing e = tt
 still-explained h h′ more t (Shown r c) e = more .reads r t e
 still-explained h h′ more t (Accepted r k v) e = more .attempts r t e
 still-explained h h′ more t (GaveUp r k) e = more .attempts r t e
-still-explained h h′ more t (Between r l g) e = more .reads r t e
+still-explained h h′ more t (Between r ch l g) e = more .reads r t e
 
 -- one event more: what was explained still is
 pub explained-on :

@@ -9,6 +9,7 @@ use native.Mathlib.Decide.{ℕ-discrete}
 use native.Mathlib.Omega.{arith}
 use lib.ListN.{length, getD, set, length-append, length-set}
 use lib.Seq.{getD-set-same, getD-set-other}
+use Rattle.radix.specs.declared.Choice.{Choice}
 use Rattle.radix.specs.declared.Count.{Count}
 use Rattle.protocol.specs.Form.{Form, recordSteps}
 use Rattle.protocol.specs.State.{Reading, idle, ofCount, ofRecord, State, bufferOf, withReader}
@@ -134,10 +135,10 @@ module _ (F : Form) (x : Count) (r₀ : List ℕ) (ok : Proper F r₀) (story : 
       (record { reads = λ i t q. q; attempts = λ i t q. q }) tt (counts-on Nothing st rd b crel)
       (records-on Nothing st rd b size rrel)
 
-  pub begins-count-read : (S : List ℕ) → Goes F x r₀ S story h (BeginCountRead r) (becomes σ r (ofCount []))
+  pub begins-count-read : (S : List ℕ) (ch : Choice) → Goes F x r₀ S story h (BeginCountRead r ch) (becomes σ r (ofCount ch []))
   unfolding counted isAccepted
-  begins-count-read S =
-      goes-on (ofCount []) (Read.countRead []) (bufferOf σ r) (readsCount refl (omega (arith, ok .places)))
+  begins-count-read S ch =
+      goes-on (ofCount ch []) (Read.countRead ch []) (bufferOf σ r) (readsCount refl (omega (arith, ok .places)))
       (inv .records .buffered r reader)
       (record { same = refl; desc = Desc.none; fell = λ h p e. absurd (omega arith) }) tt
 

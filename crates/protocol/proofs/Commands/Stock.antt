@@ -65,7 +65,7 @@ module _ (F : Form) (S : List ℕ) where
   reader-stock : (h : History) (r : ℕ) (acc : Bool) (x : Read) → InStock h → InStock (readerSteps F h r acc x)
   unfolding readerSteps
   reader-stock h r acc noRead s = s
-  reader-stock h r acc (countRead ts) s =
+  reader-stock h r acc (countRead ch ts) s =
       by-cond InStock (eqb (length (suc (h .now) ∷ ts)) (countSteps F)) (λ e. s) (λ e. s)
   reader-stock h r acc (recordRead a es ts) s =
       by-cond InStock (eqb (length (suc (h .now) ∷ ts)) (recordSteps F)) (λ e. s) (λ e. s)
@@ -75,7 +75,7 @@ module _ (F : Form) (S : List ℕ) where
   carried-stock h acc (WriteCount c) s = tt
   carried-stock h acc (WriteRecord i) s = (refl, tt)
   carried-stock h acc WriterStep s = writer-stock h (h .pending) s
-  carried-stock h acc (BeginCountRead r) s = s
+  carried-stock h acc (BeginCountRead r ch) s = s
   carried-stock h acc (BeginRecordRead r a) s = s
   carried-stock h acc (ReaderStep r) s = reader-stock h r acc (getD (h .reads) r noRead) s
   carried-stock h acc (Cancel r) s = s

@@ -92,9 +92,9 @@ module _ (F : Form) (x : Count) where
 
   abbrev pub CRel : ℕ → (ℕ → ℕ) → List (Write Count) → Reading → Read → Type 0
   CRel now c ps idle rd = Unit {0}
-  CRel now c ps (ofCount ds) Read.noRead = ⊥
-  CRel now c ps (ofCount ds) (Read.countRead ts) = Counting now c ps ds ts
-  CRel now c ps (ofCount ds) (Read.recordRead a es ts) = ⊥
+  CRel now c ps (ofCount ch ds) Read.noRead = ⊥
+  CRel now c ps (ofCount ch ds) (Read.countRead ch′ ts) = Counting now c ps ds ts
+  CRel now c ps (ofCount ch ds) (Read.recordRead a es ts) = ⊥
   CRel now c ps (ofRecord a f s ds) rd = Unit {0}
 
   pub record Done (story : List Event) (now : ℕ) (ps : List (Write Count)) (r : CountRead) : Type 0 where
@@ -122,10 +122,10 @@ module _ (F : Form) (x : Count) where
     crel-grow : (st : Reading) (rd : Read) → CRel now (cur num b x ps) ps st rd
         → CRel (suc now) (cur num b′ x ps′) ps′ st rd
     crel-grow idle rd h = tt
-    crel-grow (ofCount ds) Read.noRead h = h
-    crel-grow (ofCount ds) (Read.recordRead a es ts) h = h
+    crel-grow (ofCount ch ds) Read.noRead h = h
+    crel-grow (ofCount ch ds) (Read.recordRead a es ts) h = h
     crel-grow (ofRecord a f s ds) rd h = tt
-    crel-grow (ofCount ds) (Read.countRead ts) h = record {
+    crel-grow (ofCount ch ds) (Read.countRead ch′ ts) h = record {
       same = h .same;
       desc = desc-le (omega arith) (h .desc);
       fell = λ l p e. rw (g .full (firstOf ts) (omega (arith, first-le (h .desc))))
@@ -146,7 +146,7 @@ module _ (F : Form) (x : Count) where
     ends-grow r (Shown i c) a b s = (s .0, in-grow r c a b (s .1), g .kept (lastOf (r .steps)) c (s .2))
     ends-grow r (Accepted i k v) a b s = s
     ends-grow r (GaveUp i k) a b s = s
-    ends-grow r (Between i l h) a b s = (s .0, s .1, λ ch. in-grow r (shown ch l h) a b (s .2 ch))
+    ends-grow r (Between i ch l h) a b s = (s .0, s .1, s .2, λ either. in-grow r (shown either l h) a b (s .3 either))
 
     done-grow : (story : List Event) (e : Event) → length story ≡ now → (r : CountRead) → Done story now ps r
         → Done (story ++ (e ∷ [])) (suc now) ps′ r

@@ -3,6 +3,7 @@ use mathlib.Core.Bool.{Bool}
 use mathlib.Core.List.{List, [], _∷_, map}
 use Prim.Native.Nat.{ℕ, _+_, _*_}
 use lib.ListN.{length, replicate}
+use Rattle.radix.specs.declared.Choice.{Choice}
 use Rattle.radix.specs.declared.Count.{Count}
 use Rattle.radix.specs.declared.Version.{Version}
 use Rattle.protocol.specs.Lists.{concat}
@@ -78,6 +79,10 @@ write k = replicate k 3
 abbrev pub beginCount : (reader : ℕ) → List ℕ
 beginCount r = 4 ∷ r ∷ []
 
+-- naming the high end
+abbrev pub beginHigh : (reader : ℕ) → List ℕ
+beginHigh r = 0x0D ∷ r ∷ []
+
 abbrev pub beginRecord : (reader allowed : ℕ) → List ℕ
 beginRecord r a = 5 ∷ r ∷ a ∷ []
 
@@ -101,7 +106,7 @@ abbrev pub lent : Form → Memory
 lent F = record {
   page = replicate (countSteps F + recordSteps F) 9;
   writer = record { kind = 9; count = count 9; version = version 9; index = 9; steps = 9 };
-  readers = replicate (F .readers) (readerOf (stageAt 9 9 9 9) (replicate 16 9));
+  readers = replicate (F .readers) (readerOf (stageAt 9 9 9 9 9) (replicate 16 9));
   buffers = replicate (F .readers * F .n) 9;
 }
 
@@ -147,8 +152,8 @@ wroteCount c ts = record { what = count c; steps = ts }
 abbrev pub wroteRecord : (place : ℕ) → List ℕ → List ℕ → Write Placed
 wroteRecord i r ts = record { what = placed (record { 0 = i }) r; steps = ts }
 
-abbrev pub readCount : (reader : ℕ) → List ℕ → CountRead
-readCount r ts = record { reader = r; steps = ts }
+abbrev pub readCount : (reader : ℕ) → Choice → List ℕ → CountRead
+readCount r c ts = record { reader = r; choice = c; steps = ts }
 
 abbrev pub attempt : (reader allowed : ℕ) → (earlier steps : List ℕ) → Bool → Attempt
 attempt r a es ts acc = record { reader = r; allowed = a; earlier = es; steps = ts; accepted = acc }

@@ -3,6 +3,7 @@ use mathlib.Core.Path.{_≡_, refl}
 use mathlib.Core.Bool.{Bool, true, false}
 use mathlib.Core.List.{List, [], _∷_, map}
 use lib.ListN.{replicate}
+use Rattle.radix.specs.declared.Choice.the-variants.{Low, High}
 use Rattle.protocol.specs.History.{History, fresh, writerSteps, readerSteps, counted, fits, carried, history}
 use Rattle.protocol.specs.declared.Command.{Command}
 use Rattle.protocol.specs.declared.Command.the-variants.{
@@ -29,7 +30,7 @@ orderly xs = after (fresh brief) xs .orderly
 abbrev pub aCount : Command
 aCount = WriteCount (count 4)
 
--- each of the seven where it fits: alone, and beside what does not hinder it
+-- each command where it fits: alone, and beside what does not hinder it
 pub fitting : map orderly
     ((aCount ∷ [])
     ∷ (aCount ∷ WriterStep ∷ WriterStep ∷ aCount ∷ [])
@@ -37,13 +38,13 @@ pub fitting : map orderly
     ∷ (WriteRecord 0 ∷ [])
     ∷ (WriteRecord 0 ∷ WriterStep ∷ WriterStep ∷ WriterStep ∷ WriteRecord 0 ∷ [])
     ∷ (WriteRecord 0 ∷ WriterStep ∷ WriterStep ∷ WriterStep ∷ aCount ∷ [])
-    ∷ (BeginCountRead 0 ∷ BeginCountRead 1 ∷ [])
-    ∷ (BeginCountRead 1 ∷ ReaderStep 1 ∷ ReaderStep 1 ∷ BeginCountRead 1 ∷ [])
+    ∷ (BeginCountRead 0 Low ∷ BeginCountRead 1 High ∷ [])
+    ∷ (BeginCountRead 1 Low ∷ ReaderStep 1 ∷ ReaderStep 1 ∷ BeginCountRead 1 Low ∷ [])
     ∷ (BeginRecordRead 1 1 ∷ BeginRecordRead 0 255 ∷ [])
     ∷ (BeginRecordRead 0 1 ∷ ReaderStep 0 ∷ ReaderStep 0 ∷ ReaderStep 0 ∷ BeginRecordRead 0 1 ∷ [])
     ∷ (BeginRecordRead 0 2 ∷ ReaderStep 0 ∷ ReaderStep 0 ∷ ReaderStep 0 ∷ ReaderStep 0 ∷ [])
-    ∷ (BeginCountRead 0 ∷ Cancel 0 ∷ BeginRecordRead 0 1 ∷ Cancel 0 ∷ BeginCountRead 0 ∷ [])
-    ∷ (aCount ∷ BeginCountRead 0 ∷ ReaderStep 0 ∷ WriterStep ∷ ReaderStep 0 ∷ WriterStep ∷ [])
+    ∷ (BeginCountRead 0 Low ∷ Cancel 0 ∷ BeginRecordRead 0 1 ∷ Cancel 0 ∷ BeginCountRead 0 Low ∷ [])
+    ∷ (aCount ∷ BeginCountRead 0 Low ∷ ReaderStep 0 ∷ WriterStep ∷ ReaderStep 0 ∷ WriterStep ∷ [])
     ∷ [])
     ≡ replicate 13 true
 unfolding orderly
@@ -70,24 +71,25 @@ unfit-writes = refl
 -- a read begun over a running one, at a reader beyond the last, with 0 attempts; a reader's step of nothing, a cancel
 -- of nothing, each also at the other reader and once too often
 pub unfit-reads : map orderly
-    ((BeginCountRead 0 ∷ BeginCountRead 0 ∷ [])
-    ∷ (BeginRecordRead 0 1 ∷ BeginCountRead 0 ∷ [])
-    ∷ (BeginCountRead 2 ∷ [])
+    ((BeginCountRead 0 Low ∷ BeginCountRead 0 High ∷ [])
+    ∷ (BeginCountRead 0 High ∷ BeginCountRead 0 Low ∷ [])
+    ∷ (BeginRecordRead 0 1 ∷ BeginCountRead 0 High ∷ [])
+    ∷ (BeginCountRead 2 High ∷ [])
     ∷ (BeginRecordRead 0 1 ∷ BeginRecordRead 0 1 ∷ [])
-    ∷ (BeginCountRead 0 ∷ ReaderStep 0 ∷ BeginRecordRead 0 1 ∷ [])
+    ∷ (BeginCountRead 0 Low ∷ ReaderStep 0 ∷ BeginRecordRead 0 1 ∷ [])
     ∷ (BeginRecordRead 2 1 ∷ [])
     ∷ (BeginRecordRead 0 0 ∷ [])
     ∷ (ReaderStep 0 ∷ [])
-    ∷ (BeginCountRead 0 ∷ ReaderStep 1 ∷ [])
-    ∷ (BeginCountRead 0 ∷ ReaderStep 0 ∷ ReaderStep 0 ∷ ReaderStep 0 ∷ [])
+    ∷ (BeginCountRead 0 Low ∷ ReaderStep 1 ∷ [])
+    ∷ (BeginCountRead 0 Low ∷ ReaderStep 0 ∷ ReaderStep 0 ∷ ReaderStep 0 ∷ [])
     ∷ (BeginRecordRead 0 1 ∷ ReaderStep 0 ∷ ReaderStep 0 ∷ ReaderStep 0 ∷ ReaderStep 0 ∷ [])
-    ∷ (BeginCountRead 0 ∷ ReaderStep 2 ∷ [])
+    ∷ (BeginCountRead 0 Low ∷ ReaderStep 2 ∷ [])
     ∷ (Cancel 0 ∷ [])
-    ∷ (BeginCountRead 0 ∷ Cancel 1 ∷ [])
-    ∷ (BeginCountRead 0 ∷ Cancel 0 ∷ Cancel 0 ∷ [])
-    ∷ (BeginCountRead 0 ∷ Cancel 2 ∷ [])
+    ∷ (BeginCountRead 0 Low ∷ Cancel 1 ∷ [])
+    ∷ (BeginCountRead 0 Low ∷ Cancel 0 ∷ Cancel 0 ∷ [])
+    ∷ (BeginCountRead 0 Low ∷ Cancel 2 ∷ [])
     ∷ [])
-    ≡ replicate 16 false
+    ≡ replicate 17 false
 unfolding orderly
 unfit-reads = refl
 

@@ -5,6 +5,7 @@ use mathlib.Core.Bool.{Bool, true, false}
 use mathlib.Core.List.{List, [], _∷_, _++_, map}
 use Prim.Native.Nat.{ℕ, _+_, _-_, _^_}
 use lib.ListN.{drop, set, replicate}
+use Rattle.radix.specs.declared.Choice.the-variants.{Low, High}
 use Rattle.protocol.specs.Form.{Form, goodForm}
 use Rattle.protocol.specs.Layout.{countOrder, countReadOrder, recordOrder, attemptOrder}
 use Rattle.protocol.specs.State.{resting, idle, ofCount, State, stateOf, opened}
@@ -130,14 +131,14 @@ counting =
     executes (folded (50 ∷ 50 ∷ 60 ∷ [])) [] 18 (still (20 ∷ 21 ∷ 22 ∷ 23 ∷ 24 ∷ [])) (beginCount 0 ++ read 0 5)
 
 pub counted : (readings 0 counting
-    ≡ (ofCount [], 0 ∷ [])
-    ∷ (ofCount (20 ∷ []), 0 ∷ [])
-    ∷ (ofCount (21 ∷ 20 ∷ []), 0 ∷ [])
-    ∷ (ofCount (22 ∷ 21 ∷ 20 ∷ []), 0 ∷ [])
-    ∷ (ofCount (24 ∷ 22 ∷ 21 ∷ 20 ∷ []), 0 ∷ [])
+    ≡ (ofCount Low [], 0 ∷ [])
+    ∷ (ofCount Low (20 ∷ []), 0 ∷ [])
+    ∷ (ofCount Low (21 ∷ 20 ∷ []), 0 ∷ [])
+    ∷ (ofCount Low (22 ∷ 21 ∷ 20 ∷ []), 0 ∷ [])
+    ∷ (ofCount Low (24 ∷ 22 ∷ 21 ∷ 20 ∷ []), 0 ∷ [])
     ∷ (idle, 0 ∷ [])
     ∷ [])
-    × (outcomes counting ≡ replicate 5 Nothing ++ (Between 0 (count 62999) (count 69000) ∷ []))
+    × (outcomes counting ≡ replicate 5 Nothing ++ (Between 0 Low (count 62999) (count 69000) ∷ []))
 unfolding counting
 counted = (refl, refl)
 
@@ -147,7 +148,7 @@ unfolding executes
 crossing ds = executes three [] 18 (still ds) (beginCount 0 ++ read 0 5)
 
 pub crossed : (ends (crossing (1 ∷ 2 ∷ 0 ∷ 1 ∷ 1 ∷ [])) ≡ (5, 10))
-    × (outcomes (crossing (1 ∷ 1 ∷ 0 ∷ 1 ∷ 2 ∷ [])) ≡ replicate 5 Nothing ++ (Between 0 (count 119) (count 120) ∷ []))
+    × (outcomes (crossing (1 ∷ 1 ∷ 0 ∷ 1 ∷ 2 ∷ [])) ≡ replicate 5 Nothing ++ (Between 0 Low (count 119) (count 120) ∷ []))
 unfolding crossing
 crossed = (refl, refl)
 
@@ -170,7 +171,7 @@ abbrev pub shows : ℕ → Outcome
 shows c = Shown 0 (count c)
 
 abbrev pub betweens : (low high : ℕ) → Outcome
-betweens l h = Between 0 (count l) (count h)
+betweens l h = Between 0 Low (count l) (count h)
 
 -- they part in the first place, from the write's first step to its last one
 pub meets-turning : Meets 99 100 0 (shows 99 ∷ replicate 4 (betweens 99 100) ++ (shows 100 ∷ []))
@@ -215,7 +216,7 @@ pub resumed-is : (resumedHistory ≡ record {
   counts = wroteCount 100 (11 ∷ 10 ∷ 9 ∷ 8 ∷ 2 ∷ []) ∷ [];
   records = [];
   reads = noRead ∷ noRead ∷ [];
-  countReads = readCount 0 (12 ∷ 7 ∷ 6 ∷ 5 ∷ 4 ∷ []) ∷ [];
+  countReads = readCount 0 Low (12 ∷ 7 ∷ 6 ∷ 5 ∷ 4 ∷ []) ∷ [];
   attempts = [];
 })
     × (outcomesOf (storyOf resumedRan) ≡ replicate 11 Nothing ++ (betweens 99 100 ∷ []))
@@ -279,7 +280,7 @@ written ks = map (λ k. tried rising zeros (writer 1 1 0 0 k) (idleReader ∷ id
 abbrev pub gatheredBy : ℕ → (a b : List ℕ) → ℕ
 gatheredBy k a b =
     tried rising zeros restingWriter
-    (idleReader ∷ readerOf (stageAt 1 0 0 k) (a ++ replicate 5 0 ++ b ++ replicate 5 0) ∷ [])
+    (idleReader ∷ readerOf (stageAt 1 0 0 0 k) (a ++ replicate 5 0 ++ b ++ replicate 5 0) ∷ [])
 
 pub in-the-midst : (written (4 ∷ 5 ∷ []) ≡ 0 ∷ 3 ∷ [])
     × (gatheredBy 3 (9 ∷ 19 ∷ 29 ∷ []) (0 ∷ 0 ∷ 0 ∷ []) ≡ 0)

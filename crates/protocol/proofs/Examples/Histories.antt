@@ -3,6 +3,7 @@ use mathlib.Core.Path.{_≡_, refl}
 use mathlib.Core.Bool.{true, false}
 use mathlib.Core.List.{List, [], _∷_, _++_}
 use lib.ListN.{replicate}
+use Rattle.radix.specs.declared.Choice.the-variants.{Low, High}
 use Rattle.protocol.specs.Form.{Form}
 use Rattle.protocol.specs.Run.{Ran, RunOver}
 use Rattle.protocol.specs.History.{noWrite, recordWrite, noRead, countRead, recordRead, History}
@@ -44,7 +45,7 @@ pub printed-history : printedHistory ≡ record {
   counts = wroteCount 7 (19 ∷ 18 ∷ []) ∷ [];
   records = wroteRecord 1 (0x62 ∷ 0x62 ∷ []) (10 ∷ 7 ∷ 6 ∷ 5 ∷ []) ∷ [];
   reads = noRead ∷ [];
-  countReads = readCount 0 (20 ∷ 17 ∷ []) ∷ [];
+  countReads = readCount 0 Low (20 ∷ 17 ∷ []) ∷ [];
   attempts =
       attempt 0 2 (9 ∷ 8 ∷ 3 ∷ 2 ∷ []) (14 ∷ 13 ∷ 12 ∷ 11 ∷ []) true
       ∷ attempt 0 2 [] (9 ∷ 8 ∷ 3 ∷ 2 ∷ []) false
@@ -126,8 +127,8 @@ pub two-history : twoHistory ≡ record {
   pending = noWrite;
   counts = [];
   records = wroteRecord 2 (72 ∷ []) (11 ∷ 10 ∷ 8 ∷ []) ∷ wroteRecord 1 (62 ∷ []) (6 ∷ 5 ∷ 4 ∷ []) ∷ [];
-  reads = noRead ∷ countRead (17 ∷ []) ∷ [];
-  countReads = readCount 1 (9 ∷ 2 ∷ []) ∷ [];
+  reads = noRead ∷ countRead Low (17 ∷ []) ∷ [];
+  countReads = readCount 1 Low (9 ∷ 2 ∷ []) ∷ [];
   attempts = attempt 0 1 [] (15 ∷ 14 ∷ 13 ∷ []) true ∷ [];
 }
 unfolding twoHistory

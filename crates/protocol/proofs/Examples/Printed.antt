@@ -3,6 +3,7 @@ use mathlib.Core.Path.{_≡_, refl}
 use mathlib.Core.List.{List, [], _∷_, _++_}
 use Prim.Native.Nat.{ℕ}
 use lib.ListN.{length, getD, replicate}
+use Rattle.radix.specs.declared.Choice.the-variants.{Low, High}
 use Rattle.protocol.specs.Form.{Form}
 use Rattle.protocol.specs.State.{opened}
 use Rattle.protocol.specs.Run.{openPage, Execution, Ran, RunOver, logAfter}
@@ -40,7 +41,7 @@ pub printed-outcomes : outcomes printed
     ≡ replicate 13 Nothing
     ++ (Accepted 0 2 (version 1) ∷ [])
     ++ replicate 5 Nothing
-    ++ (Between 0 (count 4) (count 7) ∷ [])
+    ++ (Between 0 Low (count 4) (count 7) ∷ [])
 unfolding printed
 printed-outcomes = refl
 

@@ -4,6 +4,7 @@ use mathlib.Core.Path.{_≡_, refl}
 use mathlib.Core.List.{List, [], _∷_, _++_}
 use Prim.Native.Nat.{ℕ}
 use lib.ListN.{replicate}
+use Rattle.radix.specs.declared.Choice.the-variants.{Low, High}
 use Rattle.protocol.specs.Form.{Form}
 use Rattle.protocol.specs.State.{resting, idle, ofCount, ofRecord, State, stateOf, opened}
 use Rattle.protocol.specs.Run.{Execution}
@@ -97,16 +98,16 @@ unfolding executes
 counting = executes (twos 50 60) [] 18 tens (beginCount 0 ++ read 0 4)
 
 pub counting-steps : readings 0 counting
-    ≡ (ofCount [], 0 ∷ 0 ∷ [])
-    ∷ (ofCount (20 ∷ []), 0 ∷ 0 ∷ [])
-    ∷ (ofCount (21 ∷ 20 ∷ []), 0 ∷ 0 ∷ [])
-    ∷ (ofCount (23 ∷ 21 ∷ 20 ∷ []), 0 ∷ 0 ∷ [])
+    ≡ (ofCount Low [], 0 ∷ 0 ∷ [])
+    ∷ (ofCount Low (20 ∷ []), 0 ∷ 0 ∷ [])
+    ∷ (ofCount Low (21 ∷ 20 ∷ []), 0 ∷ 0 ∷ [])
+    ∷ (ofCount Low (23 ∷ 21 ∷ 20 ∷ []), 0 ∷ 0 ∷ [])
     ∷ (idle, 0 ∷ 0 ∷ [])
     ∷ []
 unfolding counting
 counting-steps = refl
 
-pub counting-ends : outcomes counting ≡ replicate 4 Nothing ++ (Between 0 (count 1259) (count 1320) ∷ [])
+pub counting-ends : outcomes counting ≡ replicate 4 Nothing ++ (Between 0 Low (count 1259) (count 1320) ∷ [])
 unfolding counting
 counting-ends = refl
 

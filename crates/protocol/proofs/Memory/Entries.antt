@@ -2,17 +2,20 @@
 use mathlib.Core.Path.{_≡_, refl, ap}
 use mathlib.Core.List.{List, [], _∷_, map}
 use mathlib.Core.Bool.{true}
-use Prim.Native.Nat.{_-_, _<_}
+use Prim.Native.Nat.{ℕ, zero, suc, _-_, _≤_, _<_}
 use native.Mathlib.Omega.{arith}
 use lib.Dec.{eqb, ltb}
 use lib.ListN.{length}
 use borrow.Author.Tests.{eqb-true, ltb-true}
+use Rattle.radix.specs.declared.Choice.{Choice}
+use Rattle.radix.specs.declared.Choice.the-variants.{Low, High}
 use Rattle.protocol.specs.Lists.{every}
 use Rattle.protocol.specs.Form.{Form, m, own, countSteps, recordSteps, goodForm}
 use Rattle.protocol.specs.State.{Writing, resting, aCount, aRecord, Reading, idle, ofCount, ofRecord}
 use Rattle.protocol.specs.Allowed.{allowedReading, versionDigits}
 use Rattle.protocol.specs.Memory.{storedWriting, storedReading}
-use Rattle.protocol.specs.Load.{same, loadWriting, loadReading, sameWriter, sameReader}
+use Rattle.protocol.specs.Outcome.{choiceNumber}
+use Rattle.protocol.specs.Load.{same, choiceOf, loadWriting, loadReading, sameWriter, sameReader}
 use Rattle.protocol.specs.declared.Writer.{Writer}
 use Rattle.protocol.specs.declared.Reader.{Reader}
 use Rattle.protocol.proofs.Lists.Cases.{both, together, eqb-refl, same-eq, same-refl}
@@ -51,14 +54,16 @@ pub sameReader-eq : (x y : Reader) → sameReader x y ≡ true → x ≡ y
 sameReader-eq x y h =
     let (a, digits) = both _ (same (x .digits) (y .digits)) h in
     let (b, steps) = both _ (eqb (x .stage .steps) (y .stage .steps)) a in
-    let (c, finished) = both _ (eqb (x .stage .finished) (y .stage .finished)) b in
-    let (kind, permitted) = both (eqb (x .stage .kind) (y .stage .kind)) (eqb (x .stage .allowed) (y .stage .allowed)) c in
+    let (c, choice) = both _ (eqb (x .stage .choice) (y .stage .choice)) b in
+    let (d, finished) = both _ (eqb (x .stage .finished) (y .stage .finished)) c in
+    let (kind, permitted) = both (eqb (x .stage .kind) (y .stage .kind)) (eqb (x .stage .allowed) (y .stage .allowed)) d in
     λ i.
     record {
       stage = record {
         kind = eqb-true (x .stage .kind) (y .stage .kind) kind i;
         allowed = eqb-true (x .stage .allowed) (y .stage .allowed) permitted i;
         finished = eqb-true (x .stage .finished) (y .stage .finished) finished i;
+        choice = eqb-true (x .stage .choice) (y .stage .choice) choice i;
         steps = eqb-true (x .stage .steps) (y .stage .steps) steps i;
       };
       digits = same-eq (x .digits) (y .digits) digits i;
@@ -67,15 +72,25 @@ sameReader-eq x y h =
 pub sameReader-refl : (x : Reader) → sameReader x x ≡ true
 sameReader-refl x = simp (eqb-refl, same-refl)
 
+pub load-choice : (ch : Choice) → choiceOf (choiceNumber ch) ≡ ch
+load-choice Low = refl
+load-choice High = refl
+
+pub choice-back : (k : ℕ) → k ≤ 1 → choiceNumber (choiceOf k) ≡ k
+choice-back zero h = refl
+choice-back (suc zero) h = refl
+choice-back (suc (suc k)) h = absurd (omega arith)
+
 module _ (F : Form) (good : goodForm F ≡ true) where
   pub load-storedReading : (x : Reading) → allowedReading F x ≡ true → loadReading F (storedReading F x) ≡ x
   unfolding loadReading storedReading allowedReading
   load-storedReading idle h = refl
-  load-storedReading (ofCount ds) h =
+  load-storedReading (ofCount ch ds) h =
       let range : InRange F = in-range F good in
       let (few, digits) = both (ltb (length ds) (countSteps F)) _ h in
       let short : length ds < countSteps F = ltb-true _ _ few in
-      ap ofCount (load-storedDigits (m F) (own F) ds (length ds - m F) (omega (arith, range .places)) (omega arith) refl)
+      rw (load-choice ch)
+      (ap (ofCount ch) (load-storedDigits (m F) (own F) ds (length ds - m F) (omega (arith, range .places)) (omega arith) refl))
   load-storedReading (ofRecord a f s ds) h =
       let range : InRange F = in-range F good in
       let (b, digits) = both _ (every (λ d. ltb d (F .base)) ds) h in

@@ -8,6 +8,7 @@ use native.Mathlib.Omega.{arith}
 use lib.Dec.{eqb, ltb, leb}
 use lib.ListN.{length, getD, set, replicate}
 use borrow.Author.Tests.{leb-true, ltb-true, le-leb, lt-ltb}
+use Rattle.radix.specs.declared.Choice.{Choice}
 use Rattle.radix.specs.Digits.{value}
 use Rattle.radix.specs.Copies.{compare}
 use Rattle.radix.specs.declared.Comparison.{Comparison}
@@ -35,7 +36,7 @@ use Rattle.protocol.proofs.Positions.Records.{recordLow, readByte}
 -- a reader's own buffer, b before and b′ after its step that ended as o; x is its reading before
 pub record Buffered (F : Form) (page : List ℕ) (r : ℕ) (x : Reading) (b b′ : List ℕ) (o : Outcome) : Type 0 where
   -- a count read leaves it
-  pub counting : (ds : List ℕ) → x ≡ ofCount ds → b′ ≡ b
+  pub counting : (ch : Choice) (ds : List ℕ) → x ≡ ofCount ch ds → b′ ≡ b
   -- so does a step that gathers a digit of a version, unless the read gives up
   pub version :
       (a f s : ℕ) (ds : List ℕ) → x ≡ ofRecord a f s ds → (s < F .q) ⊎ (F .q + F .n ≤ s) →
@@ -63,17 +64,17 @@ module _ (F : Form) (page : List ℕ) (r : ℕ) (b : List ℕ) where
   left : (x : Reading) (o : Outcome) → ((a f j : ℕ) (ds : List ℕ) → x ≡ ofRecord a f (F .q + j) ds → j < F .n → ⊥)
       → ((i k : ℕ) → o ≢ GaveUp i k) → Buffered F page r x b b o
   left x o none end = record {
-    counting = λ ds e. refl;
+    counting = λ ch ds e. refl;
     version = λ a f s ds e h g. refl;
     byte = λ a f j ds e h. absurd (none a f j ds e h);
     gave-up = λ i k e. absurd (end i k e);
   }
 
-  count-ends : (ds u v : List ℕ) (c : Comparison) → On (ofCount ds) (endCount F r b u v c)
+  count-ends : (ch : Choice) (ds u v : List ℕ) (c : Comparison) → On (ofCount ch ds) (endCount F r ch b u v c)
   unfolding endCount
-  count-ends ds u v Equal = left (ofCount ds) _ (λ a f j ds e h. never (cc)) (λ i k e. never (cc))
-  count-ends ds u v (Parted p) = left (ofCount ds) _ (λ a f j ds e h. never (cc)) (λ i k e. never (cc))
-  count-ends ds u v Crossed = refl
+  count-ends ch ds u v Equal = left (ofCount ch ds) _ (λ a f j ds e h. never (cc)) (λ i k e. never (cc))
+  count-ends ch ds u v (Parted p) = left (ofCount ch ds) _ (λ a f j ds e h. never (cc)) (λ i k e. never (cc))
+  count-ends ch ds u v Crossed = refl
 
   module _ (a f s : ℕ) (ds : List ℕ) where
     abbrev here : Reading
@@ -98,7 +99,7 @@ module _ (F : Form) (page : List ℕ) (r : ℕ) (b : List ℕ) where
           by-cond (On here) (ltb (suc f) a)
           (λ g. left here _ no-byte (λ i k e. never (cc)))
           (λ g. record {
-            counting = λ ds e. never (cc);
+            counting = λ ch ds e. never (cc);
             version = λ a f s ds e h not-yet. absurd (not-yet _ refl);
             byte = λ a f j ds e h. absurd (no-byte a f j ds e h);
             gave-up = λ i k e. refl;
@@ -111,7 +112,7 @@ module _ (F : Form) (page : List ℕ) (r : ℕ) (b : List ℕ) where
         let low = leb-true (F .q) s p in
         let high = ltb-true s (F .q + F .n) g in
         record {
-          counting = λ ds e. never (cc);
+          counting = λ ch ds e. never (cc);
           version = λ a f s′ ds e h not-yet. let at : s ≡ s′ = cc in absurd (outside s′ at h low high);
           byte = λ a f j ds e h.
               let at : s ≡ F .q + j = cc in
@@ -130,12 +131,12 @@ module _ (F : Form) (page : List ℕ) (r : ℕ) (b : List ℕ) where
   pub buffered : (x : Reading) → On x (gather F r (getD page (nextPosition F x) 0) x b)
   unfolding gather
   buffered idle = refl
-  buffered (ofCount ds) =
-      let d = getD page (nextPosition F (ofCount ds)) 0 in
-      by-cond (On (ofCount ds)) (ltb (suc (length ds)) (countSteps F))
-      (λ t. left (ofCount ds) _ (λ a f j ds e h. never (cc)) (λ i k e. never (cc)))
+  buffered (ofCount ch ds) =
+      let d = getD page (nextPosition F (ofCount ch ds)) 0 in
+      by-cond (On (ofCount ch ds)) (ltb (suc (length ds)) (countSteps F))
+      (λ t. left (ofCount ch ds) _ (λ a f j ds e h. never (cc)) (λ i k e. never (cc)))
       (λ t.
-      count-ends ds (copyA (own F) (d ∷ ds)) (copyB (m F) (d ∷ ds))
+      count-ends ch ds (copyA (own F) (d ∷ ds)) (copyB (m F) (d ∷ ds))
       (compare (copyA (own F) (d ∷ ds)) (copyB (m F) (d ∷ ds))))
   buffered (ofRecord a f s ds) =
       let d = getD page (nextPosition F (ofRecord a f s ds)) 0 in

@@ -6,6 +6,7 @@ use Prim.Native.Nat.{ℕ, suc, _+_, _-_}
 use native.Mathlib.Omega.{arith}
 use lib.ListN.{length, take, drop, getD, length-reverse, length-drop, take-append-drop}
 use lib.Seq.{take-at, drop-at}
+use Rattle.radix.specs.declared.Choice.{Choice}
 use Rattle.radix.specs.Digits.{Valid}
 use Rattle.protocol.specs.Form.{Form, m, own, countSteps}
 use Rattle.protocol.specs.Layout.{c2, countOrder}
@@ -37,8 +38,8 @@ module _ (w v : ℕ) (l : List ℕ) (size : length l ≡ w + v) where
       ∙ reverse-reverse (take w l))
 
 -- the last step
-module _ (F : Form) (range : InRange F) (page : List ℕ) (good : GoodPage F page) (ds : List ℕ)
-    (reading : GoodReading F (ofCount ds)) (last : suc (length ds) ≡ countSteps F) where
+module _ (F : Form) (range : InRange F) (page : List ℕ) (good : GoodPage F page) (ch : Choice) (ds : List ℕ)
+    (reading : GoodReading F (ofCount ch ds)) (last : suc (length ds) ≡ countSteps F) where
   -- it reads the leftmost digit of c2
   abbrev leftmost : ℕ
   leftmost = getD (c2 F) 0 0
@@ -46,18 +47,18 @@ module _ (F : Form) (range : InRange F) (page : List ℕ) (good : GoodPage F pag
   first-index : getD (countOrder F) 0 0 ≡ leftmost
   first-index = second-position F (range .shared) 0 (range .places .0)
 
-  pub last-position : nextPosition F (ofCount ds) ≡ leftmost
+  pub last-position : nextPosition F (ofCount ch ds) ≡ leftmost
   last-position = countRead F (length ds) 0 (omega arith) ∙ first-index
 
   abbrev gathered : List ℕ
   gathered = getD page leftmost 0 ∷ ds
 
   -- what was read is below its base
-  low : Fits F (ofCount ds) (getD page leftmost 0)
-  low = rw last-position at (fits F page good (ofCount ds) reading)
+  low : Fits F (ofCount ch ds) (getD page leftmost 0)
+  low = rw last-position at (fits F page good (ofCount ch ds) reading)
 
   pub valid-b : Valid (F .bases) (copyB (m F) gathered)
-  valid-b = copy-b F (getD page leftmost 0) ds reading low (omega arith) (range .shared)
+  valid-b = copy-b F (getD page leftmost 0) ch ds reading low (omega arith) (range .shared)
 
   pub valid-a : Valid (F .bases) (copyA (own F) gathered)
-  valid-a = copy-a F (getD page leftmost 0) ds reading low (omega arith)
+  valid-a = copy-a F (getD page leftmost 0) ch ds reading low (omega arith)

@@ -1,10 +1,12 @@
--- Commands as bytes, kind by kind, for all bytes: document 01's slips. Every list of bytes is one of these.
+-- Commands as bytes, kind by kind, for all bytes: document 01's slips and document 02's 0D. Every list of bytes is one of these.
 use mathlib.Core.Path.{_≡_, refl}
+use mathlib.Core.Logic.{_≢_}
 use mathlib.Core.List.{List, [], _∷_}
 use Prim.Native.Nat.{ℕ, _+_, _*_, _^_, _≤_, _<_}
 use native.Mathlib.Omega.{arith}
 use lib.ListN.{length}
 use borrow.Author.Tests.{le-leb, lt-leb, ne-eqb}
+use Rattle.radix.specs.declared.Choice.the-variants.{Low, High}
 use Rattle.radix.specs.Digits.{ofBytes}
 use Rattle.protocol.specs.Command.{over, unknown, command, withBody, decode}
 use Rattle.protocol.specs.declared.Command.{Command}
@@ -32,7 +34,7 @@ pub nothing-left : decode [] ≡ over
 unfolding decode
 nothing-left = refl
 
--- THE SEVEN KINDS, with s the bytes after the body
+-- THE EIGHT KINDS, with s the bytes after the body
 
 pub kind-1 : (a b c d e f g h : ℕ) (s : List ℕ)
     → decode (1 ∷ a ∷ b ∷ c ∷ d ∷ e ∷ f ∷ g ∷ h ∷ s)
@@ -54,9 +56,13 @@ pub kind-3 : (s : List ℕ) → decode (3 ∷ s) ≡ command WriterStep s
 unfolding decode
 kind-3 s = rw (le-leb 0 (length s) (omega arith))
 
-pub kind-4 : (r : ℕ) (s : List ℕ) → decode (4 ∷ r ∷ s) ≡ command (BeginCountRead r) s
+pub kind-4 : (r : ℕ) (s : List ℕ) → decode (4 ∷ r ∷ s) ≡ command (BeginCountRead r Low) s
 unfolding decode
 kind-4 r s = rw (le-leb 1 (length (r ∷ s)) (omega arith))
+
+pub kind-0D : (r : ℕ) (s : List ℕ) → decode (0x0D ∷ r ∷ s) ≡ command (BeginCountRead r High) s
+unfolding decode
+kind-0D r s = rw (le-leb 1 (length (r ∷ s)) (omega arith))
 
 pub kind-5 : (r allowed : ℕ) (s : List ℕ) → decode (5 ∷ r ∷ allowed ∷ s) ≡ command (BeginRecordRead r allowed) s
 unfolding decode
@@ -87,6 +93,10 @@ pub short-4 : (s : List ℕ) → length s < 1 → decode (4 ∷ s) ≡ unknown
 unfolding decode
 short-4 s h = cut 1 s _ h
 
+pub short-0D : (s : List ℕ) → length s < 1 → decode (0x0D ∷ s) ≡ unknown
+unfolding decode
+short-0D s h = cut 1 s _ h
+
 pub short-5 : (s : List ℕ) → length s < 2 → decode (5 ∷ s) ≡ unknown
 unfolding decode
 short-5 s h = cut 2 s _ h
@@ -105,9 +115,9 @@ pub kind-0 : (s : List ℕ) → decode (0 ∷ s) ≡ unknown
 unfolding decode
 kind-0 s = refl
 
-pub kind-above : (k : ℕ) (s : List ℕ) → 8 ≤ k → decode (k ∷ s) ≡ unknown
+pub kind-above : (k : ℕ) (s : List ℕ) → 8 ≤ k → k ≢ 0x0D → decode (k ∷ s) ≡ unknown
 unfolding decode
-kind-above k s h =
+kind-above k s h other =
     rw (
       ne-eqb k 1 (omega arith),
       ne-eqb k 2 (omega arith),
@@ -116,4 +126,5 @@ kind-above k s h =
       ne-eqb k 5 (omega arith),
       ne-eqb k 6 (omega arith),
       ne-eqb k 7 (omega arith),
+      ne-eqb k 0x0D other,
     )

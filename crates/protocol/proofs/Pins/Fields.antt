@@ -3,11 +3,13 @@ use mathlib.Core.Path.{_≡_, refl, sym, ap, _∙_}
 use mathlib.Core.Logic.{_↔_}
 use mathlib.Core.List.{List, [], _∷_, map}
 use mathlib.Core.Bool.{Bool, true}
-use Prim.Native.Nat.{ℕ, suc, _*_, _-_}
+use Prim.Native.Nat.{ℕ, suc, _*_, _-_, _≤_}
 use native.Mathlib.Omega.{arith}
 use lib.Dec.{eqb, ltb}
 use lib.ListN.{length, drop}
 use borrow.Author.Tests.{eqb-true, eq-eqb, ltb-true, lt-ltb, leb-true, le-leb}
+use Rattle.radix.specs.declared.Choice.{Choice}
+use Rattle.radix.specs.declared.Choice.the-variants.{Low, High}
 use Rattle.radix.specs.Digits.{valid}
 use Rattle.radix.proofs.Theorems.RoundTrip.{valid-sound, valid-complete}
 use Rattle.protocol.specs.Lists.{All, every}
@@ -31,7 +33,8 @@ use Rattle.protocol.specs.Allowed.{
   versionDigits,
 }
 use Rattle.protocol.specs.Memory.{Memory, storedDigits, storedWriting, storedReading}
-use Rattle.protocol.specs.Load.{loadWriting, loadReading, load, sameWriter, validMemory}
+use Rattle.protocol.specs.Outcome.{choiceNumber}
+use Rattle.protocol.specs.Load.{choiceOf, loadWriting, loadReading, load, sameWriter, validMemory}
 use Rattle.protocol.specs.Fields.{PageOk, WriterOk, ReaderOk, FieldsOk}
 use Rattle.protocol.specs.declared.Writer.{Writer}
 use Rattle.protocol.specs.declared.Reader.{Reader}
@@ -46,6 +49,7 @@ use Rattle.protocol.proofs.Memory.Entries.{
   sameReader-eq,
   sameReader-refl,
   load-storedReading,
+  choice-back,
 }
 use Rattle.protocol.proofs.Memory.Stored.{kept, valid-parts}
 use Rattle.protocol.proofs.Pins.Sixteen.{
@@ -57,15 +61,20 @@ use Rattle.protocol.proofs.Pins.Sixteen.{
   fits-stored,
 }
 
+-- a choice is 0 or 1
+choice-small : (ch : Choice) → choiceNumber ch ≤ 1
+choice-small Low = omega arith
+choice-small High = omega arith
+
 -- THE READERS
 module _ (F : Form) (range : InRange F) where
   reading-ok : (y : Reading) → allowedReading F y ≡ true → ReaderOk F (storedReading F y)
   unfolding allowedReading storedReading countBases
-  reading-ok idle h = ReaderOk.kind0 refl refl refl refl (all-replicate (λ d. d ≡ 0) 16 0 refl)
-  reading-ok (ofCount ds) h =
+  reading-ok idle h = ReaderOk.kind0 refl refl refl refl refl (all-replicate (λ d. d ≡ 0) 16 0 refl)
+  reading-ok (ofCount ch ds) h =
       let (few, low) = both (ltb (length ds) (countSteps F)) _ h in
       let few = ltb-true (length ds) (countSteps F) few in
-      ReaderOk.kind1 refl refl refl few
+      ReaderOk.kind1 refl refl refl (choice-small ch) few
       (stored-fits (F .bases) (m F) (own F) (length ds) refl (omega arith) (range .places .1) (omega arith) ds refl
       (valid-sound (drop (countSteps F - length ds) (countBases F)) ds low))
   reading-ok (ofRecord a f s ds) h =
@@ -74,7 +83,7 @@ module _ (F : Form) (range : InRange F) where
       in
       let few = ltb-true s (recordSteps F) few in
       let size = eqb-true (length ds) (versionDigits F s) size in
-      ReaderOk.kind2 refl (ltb-true f a left) few
+      ReaderOk.kind2 refl (ltb-true f a left) refl few
       (rw (← size)
       (stored-fits (versionBases F) (F .q) (F .q) (length ds) (length-versionBases F) (omega arith)
       (omega (arith, range .versions)) (omega arith) ds refl
@@ -83,7 +92,7 @@ module _ (F : Form) (range : InRange F) where
   reader-stored : (x : Reader) → length (x .digits) ≡ 16 → ReaderOk F x
       → (y : Reading) × (allowedReading F y ≡ true) × (storedReading F y ≡ x)
   unfolding allowedReading storedReading countBases
-  reader-stored x long (ReaderOk.kind0 k a f s z) = (
+  reader-stored x long (ReaderOk.kind0 k a f c s z) = (
     idle,
     refl,
     λ i. record {
@@ -91,29 +100,31 @@ module _ (F : Form) (range : InRange F) where
         kind = sym k i;
         allowed = sym a i;
         finished = sym f i;
+        choice = sym c i;
         steps = sym s i;
       };
       digits = sym (zeros-are (x .digits) 16 long z) i;
     },
   )
-  reader-stored x long (ReaderOk.kind1 k a f s d) =
+  reader-stored x long (ReaderOk.kind1 k a f c s d) =
       let (ds, size, v, e) =
       fits-stored (F .bases) (m F) (own F) (x .stage .steps) refl (omega arith) (range .places .1) (omega arith) (x .digits)
       long d
       in (
-        ofCount ds,
+        ofCount (choiceOf (x .stage .choice)) ds,
         rw size (together (lt-ltb (x .stage .steps) (countSteps F) s) (valid-complete v)),
         λ i. record {
           stage = record {
             kind = sym k i;
             allowed = sym a i;
             finished = sym f i;
+            choice = choice-back (x .stage .choice) c i;
             steps = size i;
           };
           digits = (ap (λ g. storedDigits (own F) (g - m F) ds) size ∙ e) i;
         },
       )
-  reader-stored x long (ReaderOk.kind2 k f s d) =
+  reader-stored x long (ReaderOk.kind2 k f c s d) =
       let (ds, size, v, e) =
       fits-stored (versionBases F) (F .q) (F .q) (versionDigits F (x .stage .steps)) (length-versionBases F) (omega arith)
       (omega (arith, range .versions)) (omega arith) (x .digits) long d
@@ -130,6 +141,7 @@ module _ (F : Form) (range : InRange F) where
             kind = sym k i;
             allowed = x .stage .allowed;
             finished = x .stage .finished;
+            choice = sym c i;
             steps = x .stage .steps;
           };
           digits = (ap (λ g. storedDigits (F .q) (g - F .q) ds) size ∙ e) i;

@@ -111,7 +111,7 @@ abbrev pub Frame : Form → State → Command → State → Outcome → Type 0
 Frame F σ (WriteCount c) σ′ o = Announced σ σ′ o
 Frame F σ (WriteRecord i) σ′ o = Announced σ σ′ o
 Frame F σ WriterStep σ′ o = Wrote σ σ′ o
-Frame F σ (BeginCountRead r) σ′ o = Quiet r σ σ′ o
+Frame F σ (BeginCountRead r ch) σ′ o = Quiet r σ σ′ o
 Frame F σ (BeginRecordRead r a) σ′ o = Quiet r σ σ′ o
 Frame F σ (ReaderStep r) σ′ o = Stepped F r σ σ′ o
 Frame F σ (Cancel r) σ′ o = Quiet r σ σ′ o
@@ -184,9 +184,9 @@ framed F S σ (WriteRecord i) =
     (unless (Announced σ) (leb (product (versionBases F)) v) VersionsExhausted _ refl
     (announced σ (aRecord (record { 0 = v }) i 0))))
 framed F S σ WriterStep = written σ F S (σ .writing)
-framed F S σ (BeginCountRead r) =
+framed F S σ (BeginCountRead r ch) =
     unless (Quiet r σ) (leb (F .readers) r) NoSuch _ refl
-    (unless (Quiet r σ) (busyReading (readingOf σ r)) Busy _ refl (quiet σ r (ofCount [])))
+    (unless (Quiet r σ) (busyReading (readingOf σ r)) Busy _ refl (quiet σ r (ofCount ch [])))
 framed F S σ (BeginRecordRead r a) =
     unless (Quiet r σ) (leb (F .readers) r || eqb a 0) NoSuch _ refl
     (unless (Quiet r σ) (busyReading (readingOf σ r)) Busy _ refl (quiet σ r (ofRecord a 0 0 [])))

@@ -20,6 +20,7 @@ use borrow.Author.Tests.{
   eq-eqb,
   ne-eqb,
 }
+use Rattle.radix.specs.declared.Choice.{Choice}
 use Rattle.radix.specs.Digits.{product, value}
 use Rattle.radix.specs.Copies.{compare}
 use Rattle.radix.specs.declared.Comparison.{Comparison}
@@ -137,9 +138,9 @@ writer-step F S σ (aCount c k) = refl
 writer-step F S σ (aRecord v i k) = refl
 
 -- a finished count read: refused exactly if a is above b
-module _ (F : Form) (σ : State) (r : ℕ) (buffer a b : List ℕ) where
+module _ (F : Form) (σ : State) (r : ℕ) (ch : Choice) (buffer a b : List ℕ) where
   count-end : (c : Comparison) → Means (F .bases) a b c
-      → verdictOf (onGathered σ r (endCount F r buffer a b c))
+      → verdictOf (onGathered σ r (endCount F r ch buffer a b c))
       ≡ cond (ltb (value (F .bases) b) (value (F .bases) a)) (gives CopiesCrossed) fine
   unfolding onGathered endCount
   count-end Equal h =
@@ -170,9 +171,9 @@ module _ (F : Form) (range : InRange F) (σ : State) (r : ℕ) (page : GoodPage 
       (λ t.
       by-cond (λ x. verdictOf (onGathered σ r x) ≡ fine) (ltb (suc s) (recordSteps F)) (λ g. refl)
       (λ g. attempt-end a f buffer (digit (ofRecord a f s ds) ∷ ds)))
-  reader-step (ofCount ds) buffer g =
+  reader-step (ofCount ch ds) buffer g =
       by-cond
-      (λ x. verdictOf (onGathered σ r x) ≡ cond (crosses F (σ .page) (ofCount ds)) (gives CopiesCrossed) fine)
+      (λ x. verdictOf (onGathered σ r x) ≡ cond (crosses F (σ .page) (ofCount ch ds)) (gives CopiesCrossed) fine)
       (ltb (suc (length ds)) (countSteps F))
       (λ t.
       let more = ltb-true (suc (length ds)) (countSteps F) t in
@@ -182,13 +183,13 @@ module _ (F : Form) (range : InRange F) (σ : State) (r : ℕ) (page : GoodPage 
       let last : suc (length ds) ≡ countSteps F = omega arith in
       let l = getD (σ .page) (getD (c2 F) 0 0) 0 ∷ ds in
       rw (
-        last-position F range (σ .page) page ds g last,
+        last-position F range (σ .page) page ch ds g last,
         eq-eqb (suc (length ds)) (countSteps F) last,
         ← is-copyA (m F) (own F) l last,
         ← is-copyB (m F) (own F) l last,
       )
-      (count-end F σ r buffer (copyA (own F) l) (copyB (m F) l) (compare (copyA (own F) l) (copyB (m F) l))
-      (compare-means (valid-a F range (σ .page) page ds g last) (valid-b F range (σ .page) page ds g last))))
+      (count-end F σ r ch buffer (copyA (own F) l) (copyB (m F) l) (compare (copyA (own F) l) (copyB (m F) l))
+      (compare-means (valid-a F range (σ .page) page ch ds g last) (valid-b F range (σ .page) page ch ds g last))))
 
 module _ (F : Form) (S : List ℕ) (σ : State) (range : InRange F) (good : Good F S σ) where
   version-below : value (versionBases F) (look (σ .page) (v1 F)) < product (versionBases F)
@@ -218,7 +219,7 @@ module _ (F : Form) (S : List ℕ) (σ : State) (range : InRange F) (good : Good
       check (leb (product (versionBases F)) (suc v)) _ VersionsExhausted _ _
       (top v (product (versionBases F)) version-below) (λ t. refl)))
   verdict WriterStep = writer-step F S σ (σ .writing)
-  verdict (BeginCountRead r) =
+  verdict (BeginCountRead r ch) =
       check (leb (F .readers) r) _ NoSuch _ _ (no-reader r)
       (λ n. check (busyReading (readingOf σ r)) _ Busy _ _ refl (λ b. refl))
   verdict (BeginRecordRead r a) =

@@ -54,7 +54,7 @@ abbrev pub byKind :
 byKind count index step countRead recordRead readerStep cancel (WriteCount c) = count (c .0)
 byKind count index step countRead recordRead readerStep cancel (WriteRecord i) = index i
 byKind count index step countRead recordRead readerStep cancel WriterStep = step
-byKind count index step countRead recordRead readerStep cancel (BeginCountRead r) = countRead r
+byKind count index step countRead recordRead readerStep cancel (BeginCountRead r ch) = countRead r
 byKind count index step countRead recordRead readerStep cancel (BeginRecordRead r a) = recordRead r a
 byKind count index step countRead recordRead readerStep cancel (ReaderStep r) = readerStep r
 byKind count index step countRead recordRead readerStep cancel (Cancel r) = cancel r
@@ -100,7 +100,7 @@ attempts test = byKind no no false no (λ r a. test a) no no
 -- one is the leftmost of c2; a is what was read first, b what was read last
 abbrev pub crosses : Form → List ℕ → Reading → Bool
 crosses F page idle = false
-crosses F page (ofCount ds) =
+crosses F page (ofCount ch ds) =
     let read = reverse (getD page (getD (c2 F) 0 0) 0 ∷ ds) in
     eqb (suc (length ds)) (countSteps F)
     && ltb (value (F .bases) (reverse (drop (own F) read))) (value (F .bases) (take (m F) read))

@@ -40,7 +40,7 @@ ends-old F story e y l (Shown r c) h = h
 ends-old F story e y l (Accepted r k v) h = h
 ends-old F story e y l (GaveUp r k) h =
     (h .0, h .1, h .2, h .3, buffer-old story e (lastOf (y .steps)) l r ∙ h .4)
-ends-old F story e y l (Between r a b) h = h
+ends-old F story e y l (Between r ch a b) h = h
 
 module _ (F : Form) (r₀ : List ℕ) where
   pub record Ext (ok : ℕ → Type 0) (now : ℕ) (b : Bool) (ps : List (Write Placed)) (G : List Mark)
@@ -80,9 +80,9 @@ module _ (F : Form) (r₀ : List ℕ) where
         RRel F r₀ now (current r₀ b ps) ps G r st rd buffer →
         RRel F r₀ (suc now) (current r₀ b′ ps′) ps′ G′ r st rd buffer
     rrel-grow r idle rd buffer o h = tt
-    rrel-grow r (ofCount ds) rd buffer o h = tt
+    rrel-grow r (ofCount ch ds) rd buffer o h = tt
     rrel-grow r (ofRecord a f s ds) Read.noRead buffer o h = h
-    rrel-grow r (ofRecord a f s ds) (Read.countRead ts) buffer o h = h
+    rrel-grow r (ofRecord a f s ds) (Read.countRead ch ts) buffer o h = h
     rrel-grow r (ofRecord a f s ds) (Read.recordRead a′ es ts) buffer o h = record {
       same = h .same;
       desc = desc-le (omega arith) (h .desc);

@@ -61,7 +61,7 @@ module _ (F : Form) (r₀ : List ℕ) where
   -- a reader, its read, its buffer
   abbrev pub RRel : ℕ → (ℕ → ℕ) → List (Write Placed) → List Mark → ℕ → Reading → Read → List ℕ → Type 0
   RRel now c ps G r idle x buffer = Unit {0}
-  RRel now c ps G r (ofCount ds) x buffer = Unit {0}
+  RRel now c ps G r (ofCount ch ds) x buffer = Unit {0}
   RRel now c ps G r (ofRecord a f s ds) Read.noRead buffer = ⊥
-  RRel now c ps G r (ofRecord a f s ds) (Read.countRead ts) buffer = ⊥
+  RRel now c ps G r (ofRecord a f s ds) (Read.countRead ch ts) buffer = ⊥
   RRel now c ps G r (ofRecord a f s ds) (Read.recordRead a′ es ts) buffer = Trying now c ps G r s ds ts buffer

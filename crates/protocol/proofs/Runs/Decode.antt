@@ -8,6 +8,7 @@ use lib.Dec.{eqb, leb}
 use lib.ListN.{length, take, drop, getD, length-append, length-take, take-append-drop, List·getD-append}
 use lib.Seq.{take-at, drop-at, getD-take}
 use borrow.Author.Tests.{leb-true, le-leb}
+use Rattle.radix.specs.declared.Choice.the-variants.{Low, High}
 use Rattle.radix.specs.Digits.{ofBytes}
 use Rattle.protocol.specs.Command.{Decoded, over, unknown, command, withBody, decode}
 use Rattle.protocol.specs.declared.Command.{Command}
@@ -73,7 +74,7 @@ decode-cut k s =
     (cond-cut s (eqb k 3) _ _ _ _
     (body-cut s 0 (λ s. WriterStep) (λ t h. refl))
     (cond-cut s (eqb k 4) _ _ _ _
-    (body-cut s 1 (λ s. BeginCountRead (getD s 0 0)) (λ t h. rw (getD-body s 1 0 t (omega arith) h)))
+    (body-cut s 1 (λ s. BeginCountRead (getD s 0 0) Low) (λ t h. rw (getD-body s 1 0 t (omega arith) h)))
     (cond-cut s (eqb k 5) _ _ _ _
     (body-cut s 2 (λ s. BeginRecordRead (getD s 0 0) (getD s 1 0))
     (λ t h. rw (getD-body s 2 0 t (omega arith) h, getD-body s 2 1 t (omega arith) h)))
@@ -81,7 +82,9 @@ decode-cut k s =
     (body-cut s 1 (λ s. ReaderStep (getD s 0 0)) (λ t h. rw (getD-body s 1 0 t (omega arith) h)))
     (cond-cut s (eqb k 7) _ _ _ _
     (body-cut s 1 (λ s. Cancel (getD s 0 0)) (λ t h. rw (getD-body s 1 0 t (omega arith) h)))
-    tt))))))
+    (cond-cut s (eqb k 0x0D) _ _ _ _
+    (body-cut s 1 (λ s. BeginCountRead (getD s 0 0) High) (λ t h. rw (getD-body s 1 0 t (omega arith) h)))
+    tt)))))))
 
 -- some bytes at least, and with any bytes after them the same command
 pub record Front (s : List ℕ) (x : Command) (t : List ℕ) : Type 0 where

@@ -8,7 +8,9 @@ use native.Mathlib.Nat.{suc-mul, mul-le-mul-right}
 use native.Mathlib.Omega.{arith}
 use lib.ListN.{length, getD}
 use Rattle.radix.specs.declared.Count.{Count}
-use Rattle.radix.specs.Copies.{Choice}
+use Rattle.radix.specs.declared.Choice.{Choice}
+use Rattle.radix.specs.declared.Choice.the-variants.{Low, High}
+use Rattle.radix.specs.Copies.{shown}
 use Rattle.protocol.specs.Form.{Form, recordSteps}
 use Rattle.protocol.specs.State.{Reading, readingOf}
 use Rattle.protocol.specs.Outcome.{endingNumber}
@@ -27,6 +29,7 @@ use Rattle.protocol.specs.Demand.{
   Reads,
   readsRecord,
   Mild,
+  InSpan,
   Continues,
   Continued,
 }
@@ -47,8 +50,32 @@ shows-the-one size c₀ cs x c (Shown r k) s from to =
     ap₂ (λ i n. Shown i (record { 0 = n })) (s .0) (omega (arith, s .1 .low, s .1 .high, from, to))
 shows-the-one size c₀ cs x c (Accepted r k v) s from to = absurd s
 shows-the-one size c₀ cs x c (GaveUp r k) s from to = absurd s
-shows-the-one size c₀ cs x c (Between r low high) s from to =
-    absurd (omega (arith, s .1, s .2 Choice.low .low, s .2 Choice.high .high, from, to))
+shows-the-one size c₀ cs x c (Between r ch low high) s from to =
+    absurd (omega (arith, s .2, s .3 Low .low, s .3 High .high, from, to))
+
+-- the count shown: that of equal copies under either choice, else the end that is chosen
+abbrev pub CountShown : Choice → Outcome → Count → Type 0
+CountShown ch Nothing c = ⊥
+CountShown ch (Shown r k) c = c ≡ k
+CountShown ch (Accepted r k v) c = ⊥
+CountShown ch (GaveUp r k) c = ⊥
+CountShown ch (Between r told low high) c = c ≡ shown ch low high
+
+-- what a count read shows lies in its span, by the choice of the command that began it and by any other
+pub shown-in-span :
+    (size : ℕ) (c₀ : Count) (cs : List (Write Count)) (x : CountRead) (o : Outcome) → CountEnds size c₀ cs x o →
+    (ch : Choice) (c : Count) → CountShown ch o c → InSpan size c₀ cs x c
+shown-in-span size c₀ cs x Nothing s ch c e = absurd s
+shown-in-span size c₀ cs x (Shown r k) s ch c e = rw e (s .1)
+shown-in-span size c₀ cs x (Accepted r k v) s ch c e = absurd s
+shown-in-span size c₀ cs x (GaveUp r k) s ch c e = absurd s
+shown-in-span size c₀ cs x (Between r told low high) s ch c e = rw e (s .3 ch)
+
+-- and the choice that its outcome tells is that command's
+pub told-by-choice :
+    (size : ℕ) (c₀ : Count) (cs : List (Write Count)) (x : CountRead) (r : ℕ) (low high : Count) (told : Choice) →
+    CountEnds size c₀ cs x (Between r told low high) → shown told low high ≡ shown (x .choice) low high
+told-by-choice size c₀ cs x r low high told s = rw (s .1)
 
 still-reading :
     (F : Form) (w : ℕ) → w ≡ recordSteps F → (st : Reading) (a : ℕ) (es ts : List ℕ) →

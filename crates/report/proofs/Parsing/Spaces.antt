@@ -21,7 +21,7 @@ abbrev pub bufferSize : Header → ℕ
 bufferSize h = h .format .readers * h .format .n
 
 abbrev pub stateSize : Header → ℕ
-stateSize h = h .format .readers * 27
+stateSize h = h .format .readers * 28
 
 module _ {more : Bool} {s : List ℕ} {h : Header} (t : Taken more s h) where
   same-page : pageSize h ≡ countSteps (formIn s) + recordSteps (formIn s)
@@ -47,7 +47,7 @@ module _ {more : Bool} {s : List ℕ} {h : Header} (t : Taken more s h) where
       let r = in-range (formIn s) (t .allowed .good) in
       rw (t .is-found) (mul-le-mul (r .readers .1) (r .bytes .1))
 
-  pub states-fit : stateSize h ≤ 432
+  pub states-fit : stateSize h ≤ 448
   states-fit =
       let r = in-range (formIn s) (t .allowed .good) in
       let e : h .format .readers ≡ formIn s .readers = ap (λ (x : Header). x .format .readers) (t .is-found) in

@@ -36,7 +36,7 @@ module _ (F : Form) (S : List ℕ) (good : goodForm F ≡ true) where
   few-steps : (x : Reading) → GoodReading F x → storedReading F x .stage .steps < 2 ^ 64
   unfolding storedReading
   few-steps idle g = omega arith
-  few-steps (ofCount ds) g = omega (arith, g .0, range .places)
+  few-steps (ofCount ch ds) g = omega (arith, g .0, range .places)
   few-steps (ofRecord a f s ds) g = omega (arith, g .1, range .versions, range .bytes)
 
   reading-lends : (x : Reading) → GoodReading F x → Lendable (storedReading F x)
@@ -52,17 +52,17 @@ module _ (F : Form) (S : List ℕ) (good : goodForm F ≡ true) where
     many = length-map (σ .readings) (storedReading F) ∙ fine .sized .readings
 
     -- packed, they are found again
-    pub packed-holds : (K : Kept) → length (K .states) ≡ F .readers * 27 → Holds F (packedOver K (stored F σ)) σ
+    pub packed-holds : (K : Kept) → length (K .states) ≡ F .readers * 28 → Holds F (packedOver K (stored F σ)) σ
     unfolding stored
     packed-holds K long =
         comes-back K (stored F σ) (readings-lend (σ .readings) (fine .good .readings))
-        (omega (arith, many, range .readers)) (long ∙ ap (λ k. k * 27) (sym many))
+        (omega (arith, many, range .readers)) (long ∙ ap (λ k. k * 28) (sym many))
 
     -- there are bytes for all of them
-    pub holds-long : (K : Kept) → Holds F K σ → length (K .states) ≡ F .readers * 27
+    pub holds-long : (K : Kept) → Holds F K σ → length (K .states) ≡ F .readers * 28
     holds-long K e =
-        by-states (λ j. j ≡ F .readers → length (K .states) ≡ F .readers * 27) (length (K .states))
-        (λ j _ long same. long ∙ ap (λ k. k * 27) same) (λ same. absurd (omega (arith, range .readers)))
+        by-states (λ j. j ≡ F .readers → length (K .states) ≡ F .readers * 28) (length (K .states))
+        (λ j _ long same. long ∙ ap (λ k. k * 28) same) (λ same. absurd (omega (arith, range .readers)))
         (sym (unpacked-length (statesOf (length (K .states))) (K .states))
         ∙ ap (λ (L : Memory). length (L .readers)) e
         ∙ many)
@@ -71,7 +71,7 @@ module _ (F : Form) (S : List ℕ) (good : goodForm F ≡ true) where
   module _ (K : Kept) (c : Count) (r : List ℕ)
       (page : length (K .page) ≡ countSteps F + recordSteps F)
       (buffers : length (K .buffers) ≡ F .readers * F .n)
-      (states : length (K .states) ≡ F .readers * 27)
+      (states : length (K .states) ≡ F .readers * 28)
       (whole : length r ≡ F .n)
       (low : c .0 < product (F .bases))
     where

@@ -84,7 +84,7 @@ module _ (more : Bool) (s : List ℕ) (K : Kept) (a : Accepted more s (headerIn 
   module _
       (long : length (K .page) ≡ countSteps F + recordSteps F)
       (wide : length (K .buffers) ≡ F .readers * F .n)
-      (states : length (K .states) ≡ F .readers * 27)
+      (states : length (K .states) ≡ F .readers * 28)
     where
       pub accepted-whole : allTurns s K (header (headerIn s)) ≡ printedOf s (header (headerIn s))
       unfolding startOf

@@ -6,6 +6,7 @@ use native.Mathlib.Omega.{arith}
 use lib.Dec.{eqb, ltb, leb}
 use lib.ListN.{length, getD}
 use borrow.Author.Tests.{leb-false}
+use Rattle.radix.specs.declared.Choice.{Choice}
 use Rattle.radix.specs.declared.Comparison.{Comparison}
 use Rattle.radix.specs.declared.Comparison.the-variants.{Equal, Parted, Crossed}
 use Rattle.radix.specs.Digits.{product, value}
@@ -63,7 +64,7 @@ Within R Nothing = Unit {0}
 Within R (Shown r c) = r < R
 Within R (Accepted r k v) = r < R
 Within R (GaveUp r k) = r < R
-Within R (Between r low high) = r < R
+Within R (Between r ch low high) = r < R
 
 abbrev pub Answers : ℕ → Answer → Type 0
 Answers R (refused why) = refusalNumber why < 12
@@ -74,11 +75,11 @@ Gathers R (Gathered.refused why) = refusalNumber why < 12
 Gathers R (gathered x b o) = Within R o
 
 module _ (F : Form) (r : ℕ) (low : r < F .readers) where
-  count-ends : (b x y : List ℕ) (c : Comparison) → Gathers (F .readers) (endCount F r b x y c)
+  count-ends : (ch : Choice) (b x y : List ℕ) (c : Comparison) → Gathers (F .readers) (endCount F r ch b x y c)
   unfolding endCount
-  count-ends b x y Equal = low
-  count-ends b x y (Parted p) = low
-  count-ends b x y Crossed = omega arith
+  count-ends ch b x y Equal = low
+  count-ends ch b x y (Parted p) = low
+  count-ends ch b x y Crossed = omega arith
 
   attempt-ends : (a f : ℕ) (b ds : List ℕ) → Gathers (F .readers) (endAttempt F r a f b ds)
   unfolding endAttempt
@@ -91,9 +92,9 @@ module _ (F : Form) (r : ℕ) (low : r < F .readers) where
   gathers : (d : ℕ) (x : Reading) (b : List ℕ) → Gathers (F .readers) (gather F r d x b)
   unfolding gather
   gathers d idle b = omega arith
-  gathers d (ofCount ds) b =
+  gathers d (ofCount ch ds) b =
       by-cond (Gathers (F .readers)) (ltb (suc (length ds)) (countSteps F)) (λ e. tt)
-      (λ e. count-ends b (copyA (own F) (d ∷ ds)) (copyB (m F) (d ∷ ds)) _)
+      (λ e. count-ends ch b (copyA (own F) (d ∷ ds)) (copyB (m F) (d ∷ ds)) _)
   gathers d (ofRecord a f s ds) b =
       by-cond (Gathers (F .readers)) (leb (F .q) s && ltb s (F .q + F .n)) (λ e. tt)
       (λ e.
@@ -125,7 +126,7 @@ module _ (F : Form) (S : List ℕ) (σ : State) where
       (leb (product (versionBases F)) (suc (value (versionBases F) (look (σ .page) (v1 F))))) (λ e. omega arith)
       (λ e. tt)))
   carried-within WriterStep = writes (σ .writing)
-  carried-within (BeginCountRead r) =
+  carried-within (BeginCountRead r ch) =
       by-cond (Answers (F .readers)) (leb (F .readers) r) (λ e. omega arith)
       (λ e. by-cond (Answers (F .readers)) (busyReading (readingOf σ r)) (λ e. omega arith) (λ e. tt))
   carried-within (BeginRecordRead r a) =

@@ -39,7 +39,7 @@ fits-outcome n R buffers Nothing small size h = tt
 fits-outcome n R buffers (Shown r c) small size h = tt
 fits-outcome n R buffers (Accepted r k v) small size h = (small, omega (arith, mul-le-mul-right n h, suc-mul r n))
 fits-outcome n R buffers (GaveUp r k) small size h = tt
-fits-outcome n R buffers (Between r a b) small size h = tt
+fits-outcome n R buffers (Between r ch a b) small size h = tt
 
 same-outcome : {o u : Outcome} → Done o ≡ Done u → o ≡ u
 same-outcome e = cc

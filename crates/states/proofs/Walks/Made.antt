@@ -23,7 +23,7 @@ pub made : Is T.the-row idleReader (vals idleReader)
 made =
     LL.owes T.the-type T′.the-laws idleReader
     (LL.owes TS.the-type TS′.the-laws (idleReader .stage)
-    ((refl, lit< tt) & (refl, lit< tt) & (refl, lit< tt) & (refl, lit< tt) & tt) & is-blank w8 tt 16 & tt)
+    ((refl, lit< tt) & (refl, lit< tt) & (refl, lit< tt) & (refl, lit< tt) & (refl, lit< tt) & tt) & is-blank w8 tt 16 & tt)
 
 pub whole-of : (x : Reader) (vs : List Val) → Is T.the-row x vs → length (x .digits) ≡ 16
 whole-of x vs is =

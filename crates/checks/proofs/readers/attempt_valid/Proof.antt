@@ -24,8 +24,8 @@ returns : tie.Need-returns
 returns c =
     let s = c .before .before .before .before in
     ⊎-elim
-    (λ w. record-spent _ (s .pre .0) _ _ (s .pre .1) (s .pre .2) (w .taken))
-    (λ w. record-over _ (s .pre .0) _ _ (s .pre .1) (s .pre .2) (w .0 .left)
+    (λ w. record-spent _ (s .pre .0) _ _ (s .pre .1) (s .pre .3) (s .pre .2) (w .taken))
+    (λ w. record-over _ (s .pre .0) _ _ (s .pre .1) (s .pre .3) (s .pre .2) (w .0 .left)
     (leb-true _ _ (rw (w .1 .ensures ∙ is-small _ _ (s .pre .0)) at (w .2 .taken))))
     (c .if1 .came)
 
@@ -77,7 +77,7 @@ returns-2 c =
     let e = v .before .before in
     let s = start₂ e in
     rw (bases-here s, gathered-here v) at (c .digits-valid .ensures)
-    ∙ record-fine _ (s .pre .0) _ _ (s .pre .1) (s .pre .2) (e .before .before .if1 .left) (within e)
+    ∙ record-fine _ (s .pre .0) _ _ (s .pre .1) (s .pre .3) (s .pre .2) (e .before .before .if1 .left) (within e)
 
 pub attempt-valid-spec : {M : Type 1} → statement M
 attempt-valid-spec =

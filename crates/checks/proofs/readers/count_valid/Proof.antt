@@ -24,8 +24,8 @@ returns : tie.Need-returns
 returns c =
     let s = c .before .before .before .before in
     ⊎-elim
-    (λ w. idle-allowed _ (s .pre .0) _ _ (s .pre .1) (s .pre .2) (w .taken))
-    (λ w. idle-finished _ (s .pre .0) _ _ (s .pre .1) (s .pre .2) (w .0 .left)
+    (λ w. idle-allowed _ (s .pre .0) _ _ (s .pre .1) (s .pre .3) (s .pre .2) (w .taken))
+    (λ w. idle-finished _ (s .pre .0) _ _ (s .pre .1) (s .pre .3) (s .pre .2) (w .0 .left)
     (eqb-false (s .args .s .finished) 0 (is-other (s .args .s .finished) 0 (w .2 .taken))))
     (c .if1 .came)
 
@@ -41,7 +41,7 @@ returns-2 c =
     let k = c .before in
     let e = k .before .before in
     let s = start₂ e in
-    none-steps _ (s .pre .0) _ _ (s .pre .1) (k .if3 .taken) (e .before .before .if1 .left) (finished-here e)
+    none-steps _ (s .pre .0) _ _ (s .pre .1) (s .pre .3) (k .if3 .taken) (e .before .before .if1 .left) (finished-here e)
     (c .if4 .taken)
 
 none-gathered-requires : tie.Need-none-gathered-requires
@@ -55,7 +55,7 @@ returns-3 c =
     let e = k .before .before in
     let s = start₂ e in
     c .none-gathered .ensures _
-    ∙ none-fine _ (s .pre .0) _ _ (s .pre .1) (k .if3 .taken) (e .before .before .if1 .left) (finished-here e)
+    ∙ none-fine _ (s .pre .0) _ _ (s .pre .1) (s .pre .3) (k .if3 .taken) (e .before .before .if1 .left) (finished-here e)
     (z .if4 .left)
 
 count-steps-requires : tie.Need-count-steps-requires
@@ -67,8 +67,8 @@ returns-4 c =
     let e = k .before .before in
     let s = start₂ e in
     ⊎-elim
-    (λ w. no-kind _ (s .pre .0) _ _ (s .pre .1) (k .if3 .left) (w .taken) (s .pre .2))
-    (λ w. count-over _ (s .pre .0) _ _ (s .pre .1) (w .0 .left) (e .before .before .if1 .left) (finished-here e)
+    (λ w. no-kind _ (s .pre .0) _ _ (s .pre .1) (s .pre .3) (k .if3 .left) (w .taken) (s .pre .2))
+    (λ w. count-over _ (s .pre .0) _ _ (s .pre .1) (s .pre .3) (w .0 .left) (e .before .before .if1 .left) (finished-here e)
     (leb-true _ _ (rw (w .1 .ensures) at (w .2 .taken))))
     (c .if5 .came)
 
@@ -96,7 +96,7 @@ returns-5 c =
     let e = o .before .before .before .before in
     let s = start₂ e in
     rw (w .own .ensures) at (c .digits-valid .ensures)
-    ∙ count-fine _ (s .pre .0) _ _ (s .pre .1) (o .if5 .left) (e .before .before .if1 .left) (finished-here e) (within i)
+    ∙ count-fine _ (s .pre .0) _ _ (s .pre .1) (s .pre .3) (o .if5 .left) (e .before .before .if1 .left) (finished-here e) (within i)
 
 pub count-valid-spec : {M : Type 1} → statement M
 count-valid-spec =

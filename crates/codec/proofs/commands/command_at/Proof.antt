@@ -5,6 +5,7 @@ use Prim.Native.Nat.{_+_, _*_}
 use native.Mathlib.Nat.{add-zero}
 use native.Mathlib.Omega.{arith}
 use lib.ListN.{take}
+use Rattle.radix.specs.declared.Choice.the-variants.{Low, High}
 use Rattle.radix.specs.Digits.{ofBytes}
 use Rattle.protocol.specs.Command.{decode}
 use Rattle.protocol.specs.declared.Command.the-variants.{
@@ -95,8 +96,8 @@ returns-3 c =
 shared-slice-read-t30 : tie.Need-shared-slice-read-t30
 shared-slice-read-t30 c = search needs
 
-add-t32 : tie.Need-add-t32
-add-t32 c = search needs
+add-t33 : tie.Need-add-t33
+add-t33 c = search needs
 
 returns-4 : tie.Need-returns-4
 unfolding decode
@@ -104,17 +105,17 @@ returns-4 c =
     let s = c .before .before .before .before in
     cut (s .args .s .now) (s .args .at) (s .pre) 2 _ (c .before .match .keys5) refl (c .if4 .taken)
 
-shared-slice-read-t35 : tie.Need-shared-slice-read-t35
-shared-slice-read-t35 c = search needs
+shared-slice-read-t36 : tie.Need-shared-slice-read-t36
+shared-slice-read-t36 c = search needs
 
-add-t36 : tie.Need-add-t36
-add-t36 c = search needs
+add-t37 : tie.Need-add-t37
+add-t37 c = search needs
 
-shared-slice-read-t38 : tie.Need-shared-slice-read-t38
-shared-slice-read-t38 c = search needs
+shared-slice-read-t39 : tie.Need-shared-slice-read-t39
+shared-slice-read-t39 c = search needs
 
-add-t40 : tie.Need-add-t40
-add-t40 c = search needs
+add-t41 : tie.Need-add-t41
+add-t41 c = search needs
 
 returns-5 : tie.Need-returns-5
 unfolding decode
@@ -122,11 +123,11 @@ returns-5 c =
     let s = c .before .before .before .before in
     cut (s .args .s .now) (s .args .at) (s .pre) 1 _ (c .before .match .keys6) refl (c .if5 .taken)
 
-shared-slice-read-t43 : tie.Need-shared-slice-read-t43
-shared-slice-read-t43 c = search needs
+shared-slice-read-t44 : tie.Need-shared-slice-read-t44
+shared-slice-read-t44 c = search needs
 
-add-t45 : tie.Need-add-t45
-add-t45 c = search needs
+add-t46 : tie.Need-add-t46
+add-t46 c = search needs
 
 returns-6 : tie.Need-returns-6
 unfolding decode
@@ -134,23 +135,35 @@ returns-6 c =
     let s = c .before .before .before .before in
     cut (s .args .s .now) (s .args .at) (s .pre) 1 _ (c .before .match .keys7) refl (c .if6 .taken)
 
-shared-slice-read-t48 : tie.Need-shared-slice-read-t48
-shared-slice-read-t48 c = search needs
+shared-slice-read-t49 : tie.Need-shared-slice-read-t49
+shared-slice-read-t49 c = search needs
 
-add-t50 : tie.Need-add-t50
-add-t50 c = search needs
+add-t51 : tie.Need-add-t51
+add-t51 c = search needs
 
 returns-7 : tie.Need-returns-7
 unfolding decode
 returns-7 c =
+    let s = c .before .before .before .before in
+    cut (s .args .s .now) (s .args .at) (s .pre) 1 _ (c .before .match .keys8) refl (c .if7 .taken)
+
+shared-slice-read-t54 : tie.Need-shared-slice-read-t54
+shared-slice-read-t54 c = search needs
+
+add-t57 : tie.Need-add-t57
+add-t57 c = search needs
+
+returns-8 : tie.Need-returns-8
+unfolding decode
+returns-8 c =
     let k = c .before .before in
     let s = k .before .before .before in
     ap (λ x. Decoded.Is (WriteCount (record { 0 = x })) (s .args .at + 1 + 8)) (c .number-at .ensures .0)
     ∙ whole (s .args .s .now) (s .args .at) (s .pre) 8 _ (k .match .keys1) refl (c .before .if1 .left)
 
-returns-8 : tie.Need-returns-8
+returns-9 : tie.Need-returns-9
 unfolding decode
-returns-8 c =
+returns-9 c =
     let k = c .before .before .before .before .before in
     let s = k .before .before .before in
     let e = c .before .before .before .before in
@@ -161,53 +174,61 @@ returns-8 c =
     ap (λ x. Decoded.Is (WriteRecord x) (s .args .at + 1 + 2)) x
     ∙ whole (s .args .s .now) (s .args .at) (s .pre) 2 _ (k .match .keys2) refl (e .if2 .left)
 
-returns-9 : tie.Need-returns-9
+returns-10 : tie.Need-returns-10
 unfolding decode
-returns-9 c =
+returns-10 c =
     let k = c in
     let s = k .before .before .before in
     ap (Decoded.Is WriterStep) (sym (add-zero (s .args .at + 1)))
     ∙ whole (s .args .s .now) (s .args .at) (s .pre) 0 _ (k .match .keys3) refl (omega arith)
 
-returns-10 : tie.Need-returns-10
-unfolding decode
-returns-10 c =
-    let k = c .before .before in
-    let s = k .before .before .before in
-    ap (λ x. Decoded.Is (BeginCountRead x) (s .args .at + 1 + 1)) (sym (first-byte (s .args .s .now) (s .args .at)))
-    ∙ whole (s .args .s .now) (s .args .at) (s .pre) 1 _ (k .match .keys4) refl (c .before .if3 .left)
-
 returns-11 : tie.Need-returns-11
 unfolding decode
 returns-11 c =
-    let k = c .before .before .before in
+    let k = c .before .before in
     let s = k .before .before .before in
-    rw (← first-byte (s .args .s .now) (s .args .at), ← next-byte (s .args .s .now) (s .args .at))
-    (whole (s .args .s .now) (s .args .at) (s .pre) 2 _ (k .match .keys5) refl (c .before .before .if4 .left))
+    ap (λ x. Decoded.Is (BeginCountRead x Low) (s .args .at + 1 + 1)) (sym (first-byte (s .args .s .now) (s .args .at)))
+    ∙ whole (s .args .s .now) (s .args .at) (s .pre) 1 _ (k .match .keys4) refl (c .before .if3 .left)
 
 returns-12 : tie.Need-returns-12
 unfolding decode
 returns-12 c =
-    let k = c .before .before in
+    let k = c .before .before .before in
     let s = k .before .before .before in
-    ap (λ x. Decoded.Is (ReaderStep x) (s .args .at + 1 + 1)) (sym (first-byte (s .args .s .now) (s .args .at)))
-    ∙ whole (s .args .s .now) (s .args .at) (s .pre) 1 _ (k .match .keys6) refl (c .before .if5 .left)
+    rw (← first-byte (s .args .s .now) (s .args .at), ← next-byte (s .args .s .now) (s .args .at))
+    (whole (s .args .s .now) (s .args .at) (s .pre) 2 _ (k .match .keys5) refl (c .before .before .if4 .left))
 
 returns-13 : tie.Need-returns-13
 unfolding decode
 returns-13 c =
     let k = c .before .before in
     let s = k .before .before .before in
-    ap (λ x. Decoded.Is (Cancel x) (s .args .at + 1 + 1)) (sym (first-byte (s .args .s .now) (s .args .at)))
-    ∙ whole (s .args .s .now) (s .args .at) (s .pre) 1 _ (k .match .keys7) refl (c .before .if6 .left)
+    ap (λ x. Decoded.Is (ReaderStep x) (s .args .at + 1 + 1)) (sym (first-byte (s .args .s .now) (s .args .at)))
+    ∙ whole (s .args .s .now) (s .args .at) (s .pre) 1 _ (k .match .keys6) refl (c .before .if5 .left)
 
 returns-14 : tie.Need-returns-14
 unfolding decode
 returns-14 c =
+    let k = c .before .before in
+    let s = k .before .before .before in
+    ap (λ x. Decoded.Is (Cancel x) (s .args .at + 1 + 1)) (sym (first-byte (s .args .s .now) (s .args .at)))
+    ∙ whole (s .args .s .now) (s .args .at) (s .pre) 1 _ (k .match .keys7) refl (c .before .if6 .left)
+
+returns-15 : tie.Need-returns-15
+unfolding decode
+returns-15 c =
+    let k = c .before .before in
+    let s = k .before .before .before in
+    ap (λ x. Decoded.Is (BeginCountRead x High) (s .args .at + 1 + 1)) (sym (first-byte (s .args .s .now) (s .args .at)))
+    ∙ whole (s .args .s .now) (s .args .at) (s .pre) 1 _ (k .match .keys8) refl (c .before .if7 .left)
+
+returns-16 : tie.Need-returns-16
+unfolding decode
+returns-16 c =
     let s = c .before .before .before in
     let r = c .match .rest in
-    other (s .args .s .now) (s .args .at) (s .pre) (r .0 .0 .0 .0 .0 .0 .1) (r .0 .0 .0 .0 .0 .1) (r .0 .0 .0 .0 .1)
-    (r .0 .0 .0 .1) (r .0 .0 .1) (r .0 .1) (r .1)
+    other (s .args .s .now) (s .args .at) (s .pre) (r .0 .0 .0 .0 .0 .0 .0 .1) (r .0 .0 .0 .0 .0 .0 .1)
+    (r .0 .0 .0 .0 .0 .1) (r .0 .0 .0 .0 .1) (r .0 .0 .0 .1) (r .0 .0 .1) (r .0 .1) (r .1)
 
 pub command-at-spec : {M : Type 1} → statement M
 command-at-spec =
@@ -230,23 +251,27 @@ command-at-spec =
     add-t26
     returns-3
     shared-slice-read-t30
-    add-t32
+    add-t33
     returns-4
-    shared-slice-read-t35
-    add-t36
-    shared-slice-read-t38
-    add-t40
+    shared-slice-read-t36
+    add-t37
+    shared-slice-read-t39
+    add-t41
     returns-5
-    shared-slice-read-t43
-    add-t45
+    shared-slice-read-t44
+    add-t46
     returns-6
-    shared-slice-read-t48
-    add-t50
+    shared-slice-read-t49
+    add-t51
     returns-7
+    shared-slice-read-t54
+    add-t57
     returns-8
     returns-9
     returns-10
     returns-11
     returns-12
     returns-13
-    returns-14)
+    returns-14
+    returns-15
+    returns-16)

@@ -41,6 +41,9 @@ array-write-out-3 c = search needs
 enum-known-x-3 : tie.Need-enum-known-x-3
 enum-known-x-3 c = search needs
 
+begin-kind-requires : tie.Need-begin-kind-requires
+begin-kind-requires c κs = search needs
+
 array-write-out-4 : tie.Need-array-write-out-4
 array-write-out-4 c = search needs
 
@@ -91,7 +94,7 @@ returns-3 c = rw (c .enum-told .given .1)
 
 returns-4 : tie.Need-returns-4
 unfolding encode
-returns-4 c = rw (c .before .x3 .given .1)
+returns-4 c = rw (c .before .before .x3 .given .1, c .begin-kind .ensures)
 
 returns-5 : tie.Need-returns-5
 unfolding encode
@@ -121,6 +124,7 @@ encode-spec =
     enum-told
     array-write-out-3
     enum-known-x-3
+    begin-kind-requires
     array-write-out-4
     array-write-out-5
     enum-known-x-4

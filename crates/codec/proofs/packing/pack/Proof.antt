@@ -1,4 +1,4 @@
--- Either no such state is there, or three bytes are stored, and the two stretches by their functions.
+-- Either no such state is there, or four bytes are stored, and the two stretches by their functions.
 use borrow.Author.Needs.{needs}
 use mathlib.Core.Path.{_≡_, _∙_}
 use native.Mathlib.Omega.{arith}
@@ -27,6 +27,12 @@ add-out-2 c = search needs
 
 slice-write-out-3 : tie.Need-slice-write-out-3
 slice-write-out-3 c = simp length-set (omega arith)
+
+add-out-3 : tie.Need-add-out-3
+add-out-3 c = search needs
+
+slice-write-out-4 : tie.Need-slice-write-out-4
+slice-write-out-4 c = simp length-set (omega arith)
 
 add-put-number : tie.Need-add-put-number
 add-put-number c = search needs
@@ -81,6 +87,8 @@ pack-spec =
     slice-write-out-2
     add-out-2
     slice-write-out-3
+    add-out-3
+    slice-write-out-4
     add-put-number
     long-requires
     put-number-requires

@@ -32,6 +32,12 @@ add-t5 c = search needs
 shared-slice-read-t15 : tie.Need-shared-slice-read-t15
 shared-slice-read-t15 c = search needs
 
+add-t16 : tie.Need-add-t16
+add-t16 c = search needs
+
+shared-slice-read-t18 : tie.Need-shared-slice-read-t18
+shared-slice-read-t18 c = search needs
+
 add-number-at : tie.Need-add-number-at
 add-number-at c = search needs
 
@@ -44,9 +50,10 @@ index-requires c κs = search needs
 returns-2 : tie.Need-returns-2
 returns-2 c =
     let n = c .before in
-    let d = n .before .before .before .before in
+    let d = n .before .before .before .before .before in
     let s = d .before .before .before .args in
-    unpack-here (s .s .now) (s .i) (d .before .if1 .left) (c .index .ensures ∙ n .number-at .ensures .0) (d .digits-at .ensures)
+    unpack-here (s .s .now) (s .i) (d .before .if1 .left) (c .index .ensures ∙ n .number-at .ensures .0)
+    (d .digits-at .ensures)
 
 pub unpack-spec : {M : Type 1} → statement M
 unpack-spec =
@@ -61,6 +68,8 @@ unpack-spec =
     shared-slice-read-t13
     add-t5
     shared-slice-read-t15
+    add-t16
+    shared-slice-read-t18
     add-number-at
     number-at-requires
     index-requires

@@ -34,20 +34,25 @@ returns-7 c = rw (c .match .keys7)
 
 returns-8 : tie.Need-returns-8
 unfolding commandOf
-returns-8 c =
+returns-8 c = rw (c .match .keys8)
+
+returns-9 : tie.Need-returns-9
+unfolding commandOf
+returns-9 c =
     let k = c .before .args .o .kind in
     let none = c .match .rest in
     rw (
-      ne-eqb k 1 (none .0 .0 .0 .0 .0 .0 .1),
-      ne-eqb k 2 (none .0 .0 .0 .0 .0 .1),
-      ne-eqb k 3 (none .0 .0 .0 .0 .1),
-      ne-eqb k 4 (none .0 .0 .0 .1),
-      ne-eqb k 5 (none .0 .0 .1),
-      ne-eqb k 6 (none .0 .1),
-      ne-eqb k 7 (none .1),
+      ne-eqb k 1 (none .0 .0 .0 .0 .0 .0 .0 .1),
+      ne-eqb k 2 (none .0 .0 .0 .0 .0 .0 .1),
+      ne-eqb k 3 (none .0 .0 .0 .0 .0 .1),
+      ne-eqb k 4 (none .0 .0 .0 .0 .1),
+      ne-eqb k 5 (none .0 .0 .0 .1),
+      ne-eqb k 6 (none .0 .0 .1),
+      ne-eqb k 7 (none .0 .1),
+      ne-eqb k 0x0D (none .1),
     )
 
 pub command-of-spec : {M : Type 1} → statement M
 command-of-spec =
     tie.close
-    (tie.spec returns returns-2 returns-3 returns-4 returns-5 returns-6 returns-7 returns-8)
+    (tie.spec returns returns-2 returns-3 returns-4 returns-5 returns-6 returns-7 returns-8 returns-9)

@@ -35,6 +35,9 @@ enum-known-o-4 c = search needs
 blank-requires-5 : tie.Need-blank-requires-5
 blank-requires-5 c κs = search needs
 
+choice-number-requires : tie.Need-choice-number-requires
+choice-number-requires c κs = search needs
+
 returns : tie.Need-returns
 unfolding entryOf
 returns c = c .blank .ensures ∙ sym (ap entryOf (c .before .enum-told .given .1))
@@ -53,7 +56,9 @@ returns-4 c = rw (c .blank4 .ensures) (sym (ap entryOf (c .before .before .o3 .g
 
 returns-5 : tie.Need-returns-5
 unfolding entryOf
-returns-5 c = rw (c .blank5 .ensures) (sym (ap entryOf (c .before .before .o4 .given .1)))
+returns-5 c =
+    let b = c .before in
+    rw (c .choice-number .ensures, b .blank5 .ensures) (sym (ap entryOf (b .before .before .o4 .given .1)))
 
 pub entry-of-spec : {M : Type 1} → statement M
 entry-of-spec =
@@ -69,6 +74,7 @@ entry-of-spec =
     blank-requires-4
     enum-known-o-4
     blank-requires-5
+    choice-number-requires
     returns
     returns-2
     returns-3

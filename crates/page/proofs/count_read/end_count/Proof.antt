@@ -5,6 +5,7 @@ use Prim.Native.Nat.{ℕ}
 use Rattle.radix.specs.declared.Ends.{Ends}
 use Rattle.protocol.specs.Form.{Form, formOf}
 use Rattle.protocol.specs.Step.{Gathered}
+use Rattle.protocol.specs.Load.{choiceOf}
 use Rattle.page.specs.Left.{Left, before, onGathered, countEnded}
 use Rattle.page.proofs.Readers.Counts.{toldBy, none-told, count-told}
 use borrow.Author.Needs.{needs}
@@ -33,7 +34,7 @@ leaves c b g =
 told :
     (c : tie.After-ends-of) (e : Ends) → c .ends-of .result ≡ e → (b : List ℕ) →
     let a = start c .args in
-    leaves c b (toldBy (a .who) b e) ≡ countEnded (form c) (a .who) (a .room) (a .stage) (a .last) (a .digits .now) b
+    leaves c b (toldBy (a .who) (choiceOf (a .stage .choice)) b e) ≡ countEnded (form c) (a .who) (a .room) (a .stage) (a .last) (a .digits .now) b
 told c e is b = count-told _ _ _ _ _ _ b e (start c .pre .0) (sym is ∙ c .ends-of .ensures)
 
 finish-requires : tie.Need-finish-requires
@@ -41,6 +42,9 @@ finish-requires c κs = search needs
 
 enum-known-e-2 : tie.Need-enum-known-e-2
 enum-known-e-2 c = search needs
+
+choice-of-requires : tie.Need-choice-of-requires
+choice-of-requires c κs = search needs
 
 finish-requires-2 : tie.Need-finish-requires-2
 finish-requires-2 c κs = search needs
@@ -68,8 +72,9 @@ returns-2 : tie.Need-returns-2
 unfolding toldBy
 returns-2 c =
     let z = c .before .before in
-    let e = z .before .before .before in
-    λ b. z .finish2 .ensures _ b ∙ told (e .before .before) _ (e .e2 .given .1) b
+    let d = z .before .before in
+    let e = d .before .before in
+    λ b. (rw (d .choice-of .ensures) at (z .finish2 .ensures (form (e .before .before)) b)) ∙ told (e .before .before) _ (e .e2 .given .1) b
 
 same-length-3 : tie.Need-same-length-3
 same-length-3 c = search needs
@@ -80,7 +85,7 @@ returns-3 c =
     let m = c .before in
     let e = m .before in
     λ b. rw (c .refused .ensures)
-    (ap (leaves e b) (sym (none-told (start e .args .who) b _ (m .match .keys3))) ∙ told e _ refl b)
+    (ap (leaves e b) (sym (none-told (start e .args .who) _ b _ (m .match .keys3))) ∙ told e _ refl b)
 
 pub end-count-spec : {M : Type 1} → statement M
 end-count-spec =
@@ -90,6 +95,7 @@ end-count-spec =
     enum-known-e
     finish-requires
     enum-known-e-2
+    choice-of-requires
     finish-requires-2
     slice-write-digits
     refused-requires

@@ -16,19 +16,19 @@ use borrow.Author.Needs.{needs}
 use Rattle.page.proofs.reading.read_at.Statement.{statement}
 use Rattle.page.proofs.reading.read_at.Tie as tie
 
-enum-told : tie.Need-enum-told
-enum-told c = search needs
+enum-known-x : tie.Need-enum-known-x
+enum-known-x c = search needs
 
 begin-count-requires : tie.Need-begin-count-requires
 begin-count-requires c κs = search needs
 
 returns : tie.Need-returns
 returns c =
-    let e = c .before in
-    (refl, reads-count _ _ _ _ _ _ _ _ (e .enum-told .given .1) _ _ (c .begin-count .ensures _ _ (e .before .before .before .before .before .pre .0 .held)))
+    let e = c .before .before in
+    (refl, reads-count _ _ _ _ _ _ _ _ _ (e .x .given .1) _ _ (c .begin-count .ensures _ _ (e .before .before .before .before .before .pre .0 .held)))
 
-enum-known-x : tie.Need-enum-known-x
-enum-known-x c = search needs
+enum-known-x-2 : tie.Need-enum-known-x-2
+enum-known-x-2 c = search needs
 
 begin-record-requires : tie.Need-begin-record-requires
 begin-record-requires c κs = search needs
@@ -36,10 +36,10 @@ begin-record-requires c κs = search needs
 returns-2 : tie.Need-returns-2
 returns-2 c =
     let e = c .before .before in
-    (refl, reads-record _ _ _ _ _ _ _ _ _ (e .x .given .1) _ _ (c .begin-record .ensures _ _ (e .before .before .before .before .before .pre .0 .held)))
+    (refl, reads-record _ _ _ _ _ _ _ _ _ (e .x2 .given .1) _ _ (c .begin-record .ensures _ _ (e .before .before .before .before .before .pre .0 .held)))
 
-enum-known-x-2 : tie.Need-enum-known-x-2
-enum-known-x-2 c = search needs
+enum-known-x-3 : tie.Need-enum-known-x-3
+enum-known-x-3 c = search needs
 
 -- a part's end fits
 bytes : (s : tie.Start) → s .args .i * s .args .format .n + s .args .format .n ≤ 4096
@@ -78,7 +78,7 @@ take-requires c κs =
     let p = c .before .before .before in
     let e = p .before .before in
     let s = e .before .before .before .before .before in
-    (step-ready _ _ _ _ _ _ (s .pre .0) _ (p .position .ensures _ (s .pre .0 .held) .0), rw (e .x2 .given .1) at (s .pre .1))
+    (step-ready _ _ _ _ _ _ (s .pre .0) _ (p .position .ensures _ (s .pre .0 .held) .0), rw (e .x3 .given .1) at (s .pre .1))
 
 same-length : tie.Need-same-length
 same-length c = search needs
@@ -89,10 +89,10 @@ returns-3 c =
     let p = t .before .before .before .before in
     let e = p .before .before in
     let s = e .before .before .before .before .before in
-    (refl, reads-step _ _ _ _ _ _ _ _ (e .x2 .given .1) (s .pre .0 .own) _ _ _ _ (p .position .ensures _ (s .pre .0 .held) .0) (t .take .ensures))
+    (refl, reads-step _ _ _ _ _ _ _ _ (e .x3 .given .1) (s .pre .0 .own) _ _ _ _ (p .position .ensures _ (s .pre .0 .held) .0) (t .take .ensures))
 
-enum-told-2 : tie.Need-enum-told-2
-enum-told-2 c = search needs
+enum-told : tie.Need-enum-told
+enum-told c = search needs
 
 drop-read-requires : tie.Need-drop-read-requires
 drop-read-requires c κs = search needs
@@ -100,7 +100,7 @@ drop-read-requires c κs = search needs
 returns-4 : tie.Need-returns-4
 returns-4 c =
     let e = c .before .before in
-    (refl, reads-cancel _ _ _ _ _ _ _ _ (e .enum-told2 .given .1) _ _ (c .drop-read .ensures _ (e .before .before .before .before .before .pre .0 .held)))
+    (refl, reads-cancel _ _ _ _ _ _ _ _ (e .enum-told .given .1) _ _ (c .drop-read .ensures _ (e .before .before .before .before .before .pre .0 .held)))
 
 no-such-requires : tie.Need-no-such-requires
 no-such-requires c κs = search needs
@@ -113,13 +113,13 @@ pub read-at-spec : {M : Type 1} → statement M
 read-at-spec =
     tie.close
     (tie.spec
-    enum-told
+    enum-known-x
     begin-count-requires
     returns
-    enum-known-x
+    enum-known-x-2
     begin-record-requires
     returns-2
-    enum-known-x-2
+    enum-known-x-3
     mul-from
     add-to
     position-requires
@@ -130,7 +130,7 @@ read-at-spec =
     take-requires
     same-length
     returns-3
-    enum-told-2
+    enum-told
     drop-read-requires
     returns-4
     no-such-requires

@@ -268,7 +268,8 @@ module _ {M : Type 1} (𝓤 : URA M) (H : Heap 𝓤) (A : Atoms 𝓤) (W : Given
           is-moved k ds fits d =
               let s = LL.owed TS.the-type TS′.the-laws (y .stage) (stage ∷ []) is-stage in
               LL.owes T.the-type T′.the-laws (moved k ds)
-              (LL.owes TS.the-type TS′.the-laws (onward (y .stage) k) (s .0 & s .1 .0 & s .1 .1 .0 & (refl, fits) & tt)
+              (LL.owes TS.the-type TS′.the-laws (onward (y .stage) k) (s .0 & s .1 .0 & s .1 .1 .0 & s .1 .1 .1 .0
+              & (refl, fits) & tt)
               & subst (λ (ds : List ℕ). Is D ds (spelt-digits ds)) (sym (same ds)) d & tt)
 
           -- the step is taken; local j is at 8 + j
@@ -312,7 +313,7 @@ module _ {M : Type 1} (𝓤 : URA M) (H : Heap 𝓤) (A : Atoms 𝓤) (W : Given
               points ! 10 11 28 29 (room .1) low refl refl refl refl refl refl refl refl $
               assigns ! (of-opd ! (load ! (from ! (stop !)) (look ! 17 refl)))
               (from ! (hop ! (look ! 29 refl) (fld ! refl (fld ! refl (stop !)))))
-              (store-in ! 0 (sub ! 3 refl (sub ! 0 refl (whole !))) (tt, record { fits = is-k .1 })) $
+              (store-in ! 0 (sub ! 4 refl (sub ! 0 refl (whole !))) (tt, record { fits = is-k .1 })) $
               use1 W (‵ (cellAt fullShare (R .mir) (mach (moved k (ls .1 .1 .0)) ∷ []) b spot))
               (W .laws .at-raw fullShare T′.mir b spot (mach (moved k (ls .1 .1 .0)))) $ move ! (6 ∷ []) $ drop ! $
               owned ! R (Is R) (LL.makes T.the-type T′.the-plain 𝓤 H A) (moved k (ls .1 .1 .0)) _

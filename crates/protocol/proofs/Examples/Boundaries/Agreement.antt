@@ -5,6 +5,7 @@ use mathlib.Core.Bool.{true, false, true≢false}
 use mathlib.Core.List.{[], _∷_}
 use lib.Dec.{lit≤}
 use native.Mathlib.Omega.{arith}
+use Rattle.radix.specs.declared.Choice.the-variants.{Low, High}
 use Rattle.protocol.specs.State.{resting, aCount, aRecord, ofCount, ofRecord}
 use Rattle.protocol.specs.History.{
   noWrite,
@@ -52,11 +53,11 @@ use Rattle.protocol.proofs.Examples.Histories.{brief}
 
 abbrev pub ended : History
 ended =
-    historyOf true 9 noWrite [] [] (noRead ∷ noRead ∷ []) (readCount 0 (4 ∷ 3 ∷ []) ∷ [])
+    historyOf true 9 noWrite [] [] (noRead ∷ noRead ∷ []) (readCount 0 Low (4 ∷ 3 ∷ []) ∷ [])
     (attempt 1 1 [] (9 ∷ 8 ∷ 7 ∷ []) true ∷ [])
 
 pub explained : Explained ended 4 (Shown 0 (count 7))
-    × Explained ended 4 (Between 0 (count 4) (count 7))
+    × Explained ended 4 (Between 0 Low (count 4) (count 7))
     × Explained ended 9 (Accepted 1 1 (version 3))
 explained = (inl (refl, refl), inl (refl, refl), inl (refl, refl))
 
@@ -67,7 +68,7 @@ shown-elsewhere (inl e) = omega (arith, e .1)
 pub shown-to-other : Explained ended 4 (Shown 1 (count 7)) → ⊥
 shown-to-other (inl e) = omega (arith, e .0)
 
-pub between-elsewhere : Explained ended 9 (Between 1 (count 4) (count 7)) → ⊥
+pub between-elsewhere : Explained ended 9 (Between 1 Low (count 4) (count 7)) → ⊥
 between-elsewhere (inl e) = omega (arith, e .1)
 
 pub accepted-elsewhere : Explained ended 4 (Accepted 0 1 (version 3)) → ⊥
@@ -122,9 +123,12 @@ forgotten w = elim w [ ]
 
 -- A READER, and its read
 
-pub reading : Reads brief (ofCount (4 ∷ [])) (countRead (3 ∷ []))
+pub reading : Reads brief (ofCount Low (4 ∷ [])) (countRead Low (3 ∷ []))
     × Reads brief (ofRecord 2 1 1 (3 ∷ [])) (recordRead 2 (5 ∷ 4 ∷ 3 ∷ []) (6 ∷ []))
 reading = (readsCount refl (lit≤ tt), readsRecord refl refl (lit≤ tt) (lit≤ tt))
+
+pub chooses-otherwise : Reads brief (ofCount High (4 ∷ [])) (countRead Low (3 ∷ [])) → ⊥
+chooses-otherwise w = elim w [ ]
 
 pub attempt-unfinished : Reads brief (ofRecord 2 1 1 (3 ∷ [])) (recordRead 2 [] (6 ∷ [])) → ⊥
 attempt-unfinished (readsRecord e s l f) = omega (arith, e)
@@ -132,7 +136,7 @@ attempt-unfinished (readsRecord e s l f) = omega (arith, e)
 pub beyond-allowed : Reads brief (ofRecord 1 1 0 []) (recordRead 1 (5 ∷ 4 ∷ 3 ∷ []) []) → ⊥
 beyond-allowed (readsRecord e s l f) = omega (arith, f)
 
-pub never-ended : Reads brief (ofCount (4 ∷ 4 ∷ [])) (countRead (4 ∷ 3 ∷ [])) → ⊥
+pub never-ended : Reads brief (ofCount Low (4 ∷ 4 ∷ [])) (countRead Low (4 ∷ 3 ∷ [])) → ⊥
 never-ended (readsCount e l) = omega (arith, l)
 
 -- REFUSALS, with records of two bytes: 2 for a length of three, and for no other; never 1, 3 and 10

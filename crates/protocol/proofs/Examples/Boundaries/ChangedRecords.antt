@@ -7,6 +7,7 @@ use mathlib.Core.List.{List, [], _∷_, _++_}
 use Prim.Native.Nat.{ℕ}
 use lib.ListN.{getD, replicate}
 use native.Mathlib.Omega.{arith}
+use Rattle.radix.specs.declared.Choice.the-variants.{Low, High}
 use Rattle.radix.specs.declared.Place.{Place}
 use Rattle.protocol.specs.Memory.{Memory}
 use Rattle.protocol.specs.Run.{openPage, Ran, RunOver}
@@ -96,7 +97,7 @@ versionIn Nothing = 0
 versionIn (Shown r c) = 0
 versionIn (Accepted r k v) = v .0
 versionIn (GaveUp r k) = 0
-versionIn (Between r l h) = 0
+versionIn (Between r ch l h) = 0
 
 -- version 1 must come with the record of place 1, whose second byte is 2 and not 4
 not-reported : (i : Place) →

@@ -6,7 +6,10 @@ use mathlib.Core.Bool.{true≢false}
 use mathlib.Core.List.{List, [], _∷_}
 use Prim.Native.Nat.{ℕ, _≤_}
 use native.Mathlib.Omega.{arith}
-use Rattle.radix.specs.Copies.{Choice, shown}
+use Rattle.protocol.specs.Outcome.{choiceNumber}
+use Rattle.radix.specs.declared.Choice.{Choice}
+use Rattle.radix.specs.declared.Choice.the-variants.{Low, High}
+use Rattle.radix.specs.Copies.{shown}
 use Rattle.radix.specs.declared.Count.{Count}
 use Rattle.protocol.specs.History.{Write}
 use Rattle.protocol.specs.Demand.{
@@ -26,7 +29,7 @@ use Rattle.protocol.proofs.Examples.Common.{count, version, wroteCount,
 
 -- of reader 0's read with these steps, beside these writes, x lies in the span
 abbrev pub Inside : List (Write Count) → List ℕ → ℕ → Type 0
-Inside cs ts x = InSpan 2 (count 4) cs (readCount 0 ts) (count x)
+Inside cs ts x = InSpan 2 (count 4) cs (readCount 0 Low ts) (count x)
 
 -- the span is from lo to hi
 abbrev pub Exactly : List (Write Count) → List ℕ → (lo hi : ℕ) → Type 0
@@ -82,7 +85,7 @@ two-written = span _ _
 -- WHAT IT MAY END AS: 7 is begun in the midst of the read, so that the span is from 4 to 7
 
 abbrev pub MayEnd : Outcome → Type 0
-MayEnd = CountEnds 2 (count 4) (wroteCount 7 (4 ∷ []) ∷ []) (readCount 0 (5 ∷ 3 ∷ []))
+MayEnd = CountEnds 2 (count 4) (wroteCount 7 (4 ∷ []) ∷ []) (readCount 0 Low (5 ∷ 3 ∷ []))
 
 -- equal copies: the opening's count or the one begun, of this reader
 pub shows-old : MayEnd (Shown 0 (count 4))
@@ -108,28 +111,32 @@ pub of-another-reader : MayEnd (Shown 1 (count 4)) → ⊥
 of-another-reader e = omega (arith, e .0)
 
 -- copies that part: any two counts of the span, the lower one first
-pub ends-between : MayEnd (Between 0 (count 4) (count 7)) × MayEnd (Between 0 (count 5) (count 6))
+pub ends-between : MayEnd (Between 0 Low (count 4) (count 7)) × MayEnd (Between 0 Low (count 5) (count 6))
 ends-between = (
-  (refl, omega arith, either 4 7 (omega arith) (omega arith) (omega arith)),
-  (refl, omega arith, either 5 6 (omega arith) (omega arith) (omega arith)),
+  (refl, refl, omega arith, either 4 7 (omega arith) (omega arith) (omega arith)),
+  (refl, refl, omega arith, either 5 6 (omega arith) (omega arith) (omega arith)),
 )
   where
     either : (l h : ℕ) → 4 ≤ l → l ≤ h → h ≤ 7 → (choice : Choice)
         → Inside (wroteCount 7 (4 ∷ []) ∷ []) (5 ∷ 3 ∷ []) (shown choice (count l) (count h) .0)
-    either l h a b c Choice.low = begun-during l .1 (omega arith, omega arith)
-    either l h a b c Choice.high = begun-during h .1 (omega arith, omega arith)
+    either l h a b c Low = begun-during l .1 (omega arith, omega arith)
+    either l h a b c High = begun-during h .1 (omega arith, omega arith)
 
-pub exchanged : MayEnd (Between 0 (count 7) (count 4)) → ⊥
-exchanged e = omega (arith, e .1)
+-- and with the choice of the command that began the read, not another
+pub chosen-otherwise : MayEnd (Between 0 High (count 4) (count 7)) → ⊥
+chosen-otherwise e = omega (arith, ap choiceNumber (e .1))
 
-pub not-parted : MayEnd (Between 0 (count 7) (count 7)) → ⊥
-not-parted e = omega (arith, e .1)
+pub exchanged : MayEnd (Between 0 Low (count 7) (count 4)) → ⊥
+exchanged e = omega (arith, e .2)
 
-pub below-the-span : MayEnd (Between 0 (count 3) (count 7)) → ⊥
-below-the-span e = omega (arith, e .2 Choice.low .low)
+pub not-parted : MayEnd (Between 0 Low (count 7) (count 7)) → ⊥
+not-parted e = omega (arith, e .2)
 
-pub above-the-span : MayEnd (Between 0 (count 4) (count 8)) → ⊥
-above-the-span e = omega (arith, e .2 Choice.high .high)
+pub below-the-span : MayEnd (Between 0 Low (count 3) (count 7)) → ⊥
+below-the-span e = omega (arith, e .3 Low .low)
+
+pub above-the-span : MayEnd (Between 0 Low (count 4) (count 8)) → ⊥
+above-the-span e = omega (arith, e .3 High .high)
 
 pub nothing-else : (MayEnd Nothing → ⊥) × (MayEnd (Accepted 0 1 (version 0)) → ⊥) × (MayEnd (GaveUp 0 1) → ⊥)
 nothing-else = (λ e. e, λ e. e, λ e. e)

@@ -4,6 +4,7 @@ use mathlib.Core.Path.{_≡_, refl}
 use mathlib.Core.List.{List, [], _∷_, map}
 use Prim.Native.Nat.{ℕ}
 use lib.ListN.{replicate}
+use Rattle.radix.specs.declared.Choice.the-variants.{Low, High}
 use Rattle.protocol.specs.State.{opened}
 use Rattle.protocol.specs.Command.{Decoded, unknown, command, decode}
 use Rattle.protocol.specs.declared.Command.the-variants.{
@@ -32,19 +33,21 @@ pub whole : read-as
     ∷ (5 ∷ 1 ∷ 2 ∷ 9 ∷ [])
     ∷ (6 ∷ 1 ∷ 9 ∷ [])
     ∷ (7 ∷ 1 ∷ 9 ∷ [])
+    ∷ (0x0D ∷ 1 ∷ 9 ∷ [])
     ∷ [])
     ≡ command (WriteCount (count 0x0102030405060708)) (9 ∷ [])
     ∷ command (WriteRecord 0x0102) (9 ∷ [])
     ∷ command WriterStep (9 ∷ [])
-    ∷ command (BeginCountRead 1) (9 ∷ [])
+    ∷ command (BeginCountRead 1 Low) (9 ∷ [])
     ∷ command (BeginRecordRead 1 2) (9 ∷ [])
     ∷ command (ReaderStep 1) (9 ∷ [])
     ∷ command (Cancel 1) (9 ∷ [])
+    ∷ command (BeginCountRead 1 High) (9 ∷ [])
     ∷ []
 unfolding read-as
 whole = refl
 
--- one byte short, and no body at all; kinds 0, 8 and 255
+-- one byte short, and no body at all; kinds 0, 8 to 0C, 0E and 255
 pub cut-short : read-as
     ((1 ∷ replicate 7 0)
     ∷ (1 ∷ [])
@@ -55,11 +58,17 @@ pub cut-short : read-as
     ∷ (5 ∷ [])
     ∷ (6 ∷ [])
     ∷ (7 ∷ [])
+    ∷ (0x0D ∷ [])
     ∷ (0 ∷ replicate 8 1)
     ∷ (8 ∷ replicate 8 1)
+    ∷ (9 ∷ replicate 9 1)
+    ∷ (0x0A ∷ replicate 9 1)
+    ∷ (0x0B ∷ replicate 9 1)
+    ∷ (0x0C ∷ replicate 9 1)
+    ∷ (0x0E ∷ replicate 9 1)
     ∷ (255 ∷ replicate 8 1)
     ∷ [])
-    ≡ replicate 12 unknown
+    ≡ replicate 18 unknown
 unfolding read-as
 cut-short = refl
 

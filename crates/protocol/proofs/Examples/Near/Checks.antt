@@ -3,6 +3,7 @@ use mathlib.Core.Path.{_≡_, refl}
 use mathlib.Core.List.{List, [], _∷_, _++_, map}
 use Prim.Native.Nat.{ℕ}
 use lib.ListN.{length, replicate}
+use Rattle.radix.specs.declared.Choice.the-variants.{Low, High}
 use Rattle.protocol.specs.State.{
   Writing,
   resting,
@@ -62,15 +63,17 @@ of-its-step = (refl, refl)
 
 -- reader 2 is beyond the last; 0 attempts are none
 abbrev pub begins : ℕ → List Command
-begins r = BeginCountRead r ∷ BeginRecordRead r 1 ∷ BeginRecordRead r 0 ∷ ReaderStep r ∷ Cancel r ∷ []
+begins r =
+    BeginCountRead r Low ∷ BeginCountRead r High ∷ BeginRecordRead r 1 ∷ BeginRecordRead r 0 ∷ ReaderStep r ∷ Cancel r ∷ []
 
-pub of-a-reader : (answers 3 resting idle (begins 0) ≡ 0 ∷ 0 ∷ 8 ∷ 7 ∷ 7 ∷ [])
-    × (answers 3 resting (ofCount []) (begins 0) ≡ 6 ∷ 6 ∷ 8 ∷ 0 ∷ 0 ∷ [])
-    × (answers 3 resting (ofRecord 1 0 2 (3 ∷ [])) (begins 0) ≡ 6 ∷ 6 ∷ 8 ∷ 0 ∷ 0 ∷ [])
-    × (answers 3 resting (ofCount []) (begins 1) ≡ 0 ∷ 0 ∷ 8 ∷ 7 ∷ 7 ∷ [])
-    × (answers 3 resting (ofCount []) (begins 2) ≡ replicate 5 8)
+pub of-a-reader : (answers 3 resting idle (begins 0) ≡ 0 ∷ 0 ∷ 0 ∷ 8 ∷ 7 ∷ 7 ∷ [])
+    × (answers 3 resting (ofCount Low []) (begins 0) ≡ 6 ∷ 6 ∷ 6 ∷ 8 ∷ 0 ∷ 0 ∷ [])
+    × (answers 3 resting (ofCount High []) (begins 0) ≡ 6 ∷ 6 ∷ 6 ∷ 8 ∷ 0 ∷ 0 ∷ [])
+    × (answers 3 resting (ofRecord 1 0 2 (3 ∷ [])) (begins 0) ≡ 6 ∷ 6 ∷ 6 ∷ 8 ∷ 0 ∷ 0 ∷ [])
+    × (answers 3 resting (ofCount Low []) (begins 1) ≡ 0 ∷ 0 ∷ 0 ∷ 8 ∷ 7 ∷ 7 ∷ [])
+    × (answers 3 resting (ofCount Low []) (begins 2) ≡ replicate 6 8)
 unfolding answers
-of-a-reader = (refl, refl, refl, refl, refl)
+of-a-reader = (refl, refl, refl, refl, refl, refl)
 
 -- BYTES, with the log: commands carried out, and the number
 
@@ -82,7 +85,7 @@ unfoldable pub crossing : (room : ℕ) → List ℕ → Execution
 unfolding executes
 crossing room s =
     executes brief [] room
-    (stateOf (5 ∷ 5 ∷ 0 ∷ 61 ∷ 0 ∷ []) resting (ofCount (7 ∷ []) ∷ idle ∷ []) (replicate 2 (0 ∷ []))) s
+    (stateOf (5 ∷ 5 ∷ 0 ∷ 61 ∷ 0 ∷ []) resting (ofCount Low (7 ∷ []) ∷ idle ∷ []) (replicate 2 (0 ∷ []))) s
 
 pub crossed : (ends (crossing 10 (read 0 1)) ≡ (0, 10)) × (ends (crossing 0 (read 0 1)) ≡ (0, 10))
     × (ends (crossing 0 (7 ∷ 0 ∷ [])) ≡ (1, 0))
@@ -98,6 +101,6 @@ refusedBusy =
 
 pub still-there : (ends refusedBusy ≡ (2, 6))
     × (refusedBusy .state
-    ≡ stateOf (5 ∷ 5 ∷ 0 ∷ 61 ∷ 0 ∷ []) (aCount (count 7) 0) (ofCount [] ∷ idle ∷ []) (replicate 2 (0 ∷ [])))
+    ≡ stateOf (5 ∷ 5 ∷ 0 ∷ 61 ∷ 0 ∷ []) (aCount (count 7) 0) (ofCount Low [] ∷ idle ∷ []) (replicate 2 (0 ∷ [])))
 unfolding refusedBusy
 still-there = (refl, refl)

@@ -86,11 +86,11 @@ pub bad-writers : writers
 unfolding tried
 bad-writers = refl
 
--- A READER: kind, allowed, finished, steps, and its digits: of the copy that it gathers first, from the left; of the
+-- A READER without a choice: kind, allowed, finished, steps, and its digits: of the copy that it gathers first, from the left; of the
 -- other, from the right
 
 abbrev pub reader : (kind a f k : ℕ) → (a₁ a₀ b₁ b₀ : ℕ) → Reader
-reader x a f k a₁ a₀ b₁ b₀ = readerOf (stageAt x a f k) (a₁ ∷ a₀ ∷ replicate 6 0 ++ (b₁ ∷ b₀ ∷ replicate 6 0))
+reader x a f k a₁ a₀ b₁ b₀ = readerOf (stageAt x a f 0 k) (a₁ ∷ a₀ ∷ replicate 6 0 ++ (b₁ ∷ b₀ ∷ replicate 6 0))
 
 -- as the last reader
 abbrev pub readers : List Reader → List ℕ
@@ -161,9 +161,22 @@ pub bad-attempting : readers
 unfolding tried
 bad-attempting = refl
 
+-- THE CHOICE: of a count read 0 or 1; of a reader that is idle, and of a record read, 0
+abbrev pub choosing : (kind allowed choice : ℕ) → Reader
+choosing x a c = readerOf (stageAt x a 0 c 0) (replicate 16 0)
+
+pub good-choices : readers (choosing 1 0 0 ∷ choosing 1 0 1 ∷ choosing 0 0 0 ∷ choosing 2 1 0 ∷ []) ≡ replicate 4 0
+unfolding tried
+good-choices = refl
+
+pub bad-choices : readers (choosing 1 0 2 ∷ choosing 1 0 255 ∷ choosing 0 0 1 ∷ choosing 2 1 1 ∷ choosing 2 1 2 ∷ [])
+    ≡ replicate 5 3
+unfolding tried
+bad-choices = refl
+
 -- digits past the places: position k of sixteen is 1
 pub bad-past :
-    map (λ k. tried pair page restingWriter (readerOf (stageAt 1 0 0 3) (set (replicate 16 0) k 1) ∷ idleReader ∷ []))
+    map (λ k. tried pair page restingWriter (readerOf (stageAt 1 0 0 0 3) (set (replicate 16 0) k 1) ∷ idleReader ∷ []))
     (2 ∷ 7 ∷ 10 ∷ 15 ∷ []) ≡ replicate 4 3
 unfolding tried
 bad-past = refl

@@ -2,6 +2,7 @@
 use mathlib.Core.Path.{_≡_, refl}
 use mathlib.Core.List.{List, [], _∷_, map}
 use Prim.Native.Nat.{ℕ}
+use Rattle.radix.specs.declared.Choice.the-variants.{Low, High}
 use Rattle.protocol.specs.State.{resting, Reading, idle, ofCount, ofRecord, State, stateOf}
 use Rattle.protocol.specs.Outcome.{entry}
 use Rattle.protocol.specs.Run.{Execution}
@@ -19,7 +20,7 @@ entries os = map entry os
 
 pub entries-are : entries
     (Shown 10 (count 0x0102030405060708) ∷ Accepted 10 11 (version 0x01020304) ∷ GaveUp 10 11 ∷ Nothing
-    ∷ Between 10 (count 0x0102030405060708) (count 0x1112131415161718) ∷ [])
+    ∷ Between 10 Low (count 0x0102030405060708) (count 0x1112131415161718) ∷ [])
     ≡ (1 ∷ 10 ∷ 1 ∷ 2 ∷ 3 ∷ 4 ∷ 5 ∷ 6 ∷ 7 ∷ 8 ∷ [])
     ∷ (2 ∷ 10 ∷ 11 ∷ 1 ∷ 2 ∷ 3 ∷ 4 ∷ [])
     ∷ (3 ∷ 10 ∷ 11 ∷ [])
@@ -42,19 +43,19 @@ steps v w x room = executes brief [] room (before v w x) (read 0 1)
 
 -- a count shown takes ten bytes, a record accepted seven, giving up three; an attempt that is not the last takes none;
 -- copies that part take eighteen, and none of ten to seventeen will do; crossed ones are refused by 10 whatever the room
-pub just-fits : (map (λ k. ends (steps 3 3 (ofCount (5 ∷ [])) k)) (9 ∷ 10 ∷ []) ≡ (0, 12) ∷ (1, 0) ∷ [])
+pub just-fits : (map (λ k. ends (steps 3 3 (ofCount Low (5 ∷ [])) k)) (9 ∷ 10 ∷ []) ≡ (0, 12) ∷ (1, 0) ∷ [])
     × (map (λ k. ends (steps 3 3 (ofRecord 2 1 2 (3 ∷ [])) k)) (6 ∷ 7 ∷ []) ≡ (0, 12) ∷ (1, 0) ∷ [])
     × (map (λ k. ends (steps 4 3 (ofRecord 2 1 2 (3 ∷ [])) k)) (2 ∷ 3 ∷ []) ≡ (0, 12) ∷ (1, 0) ∷ [])
     × (map (λ k. ends (steps 4 3 (ofRecord 3 1 2 (3 ∷ [])) k)) (0 ∷ []) ≡ (1, 0) ∷ [])
-    × (map (λ k. ends (steps 3 3 (ofCount (4 ∷ [])) k)) (0 ∷ 9 ∷ 10 ∷ 17 ∷ 18 ∷ [])
+    × (map (λ k. ends (steps 3 3 (ofCount Low (4 ∷ [])) k)) (0 ∷ 9 ∷ 10 ∷ 17 ∷ 18 ∷ [])
     ≡ (0, 12) ∷ (0, 12) ∷ (0, 12) ∷ (0, 12) ∷ (1, 0) ∷ [])
-    × (map (λ k. ends (steps 3 3 (ofCount (6 ∷ [])) k)) (0 ∷ 9 ∷ 18 ∷ []) ≡ (0, 10) ∷ (0, 10) ∷ (0, 10) ∷ [])
+    × (map (λ k. ends (steps 3 3 (ofCount Low (6 ∷ [])) k)) (0 ∷ 9 ∷ 18 ∷ []) ≡ (0, 10) ∷ (0, 10) ∷ (0, 10) ∷ [])
 unfolding steps
 just-fits = (refl, refl, refl, refl, refl, refl)
 
 -- what is left is what there was, and the reader's buffer keeps its bytes
-pub not-happened : (steps 3 3 (ofCount (5 ∷ [])) 9 .state ≡ before 3 3 (ofCount (5 ∷ [])))
-    × (steps 3 3 (ofCount (4 ∷ [])) 17 .state ≡ before 3 3 (ofCount (4 ∷ [])))
+pub not-happened : (steps 3 3 (ofCount Low (5 ∷ [])) 9 .state ≡ before 3 3 (ofCount Low (5 ∷ [])))
+    × (steps 3 3 (ofCount Low (4 ∷ [])) 17 .state ≡ before 3 3 (ofCount Low (4 ∷ [])))
     × (steps 3 3 (ofRecord 2 1 2 (3 ∷ [])) 6 .state ≡ before 3 3 (ofRecord 2 1 2 (3 ∷ [])))
     × (steps 4 3 (ofRecord 2 1 2 (3 ∷ [])) 2 .state ≡ before 4 3 (ofRecord 2 1 2 (3 ∷ [])))
 unfolding steps

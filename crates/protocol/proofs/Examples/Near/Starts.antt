@@ -19,10 +19,10 @@ abbrev pub restingWriter : Writer
 restingWriter = record { kind = 0; count = count 0; version = version 0; index = 0; steps = 0 }
 
 abbrev pub idleReader : Reader
-idleReader = readerOf (stageAt 0 0 0 0) (replicate 16 0)
+idleReader = readerOf (stageAt 0 0 0 0 0) (replicate 16 0)
 
 abbrev pub nowhere : Reader
-nowhere = readerOf (stageAt 3 0 0 0) (replicate 16 0)
+nowhere = readerOf (stageAt 3 0 0 0 0) (replicate 16 0)
 
 abbrev pub memory : List ℕ → List Reader → List ℕ → Memory
 memory page rs bs = record { page = page; writer = restingWriter; readers = rs; buffers = bs }

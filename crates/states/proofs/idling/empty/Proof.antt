@@ -86,7 +86,7 @@ module _ {M : Type 1} (𝓤 : URA M) (H : Heap 𝓤) (A : Atoms 𝓤) (W : Given
       -- [obs; the borrow; the token]
       enters ! C Λ code.function (ptr-vals x) Post ((tt, tt) & tt) (λ l.
       assigns ! (agg ! (and-then ! (lit ! tt) (and-then ! (lit ! tt) (and-then ! (lit ! tt) (and-then ! (lit ! tt)
-      (no-more !)))))) (from ! (stop !)) (init ! 5 refl (tt, typed .1 .0)) $
+      (and-then ! (lit ! tt) (no-more !))))))) (from ! (stop !)) (init ! 5 refl (tt, typed .1 .0)) $
       assigns ! (rep ! 16 (lit ! tt)) (from ! (stop !)) (init ! 6 refl (tt, typed .1 .1 .0)) $
       opens ! tt R {h = x .now} (x .ptr .0) (x .ptr .1) (λ vs. spelt ! R (Is R) (shows 𝓤 H A R) vals
       (LL.tells T.the-type T′.the-laws) fullShare (x .now) vs (x .ptr .0) (x .ptr .1) $
