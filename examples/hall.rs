@@ -2,7 +2,10 @@
 //!
 //!     cargo run --manifest-path bindings/rust/Cargo.toml --example hall
 use lagumtay::Command::*;
-use lagumtay::{commands, Command, Count, Entry, Format, Layout, Page, Refusal, Version};
+use lagumtay::{commands, Choice, Command, Count, Entry, Format, Layout, Page, Refusal, Version};
+
+/// The hall board names the high end. A log does not tell what began a read.
+const BOARD: Choice = Choice::High;
 
 /// A count in hours and minutes.
 fn time(Count(count): Count) -> String {
@@ -28,8 +31,8 @@ fn run(page: &mut Page, records: &[u8], list: &[Command]) -> Result<(), Refusal>
                 println!("reader {reader} gives up after {attempts} attempt(s)")
             }
             Entry::Between { reader, low, high } => {
-                let (low, high) = (time(low), time(high));
-                println!("reader {reader} shows --:-- (between {low} and {high})")
+                let [shown, low, high] = [entry.shown(BOARD).unwrap(), low, high].map(time);
+                println!("reader {reader} shows {shown} (between {low} and {high})")
             }
         }
     }
@@ -48,16 +51,21 @@ fn main() -> Result<(), Refusal> {
     let mut page = Page::open(format, Count(11 * 60 + 57), b"opening.")?;
 
     // Reader 0 reads the first copy, 11:57; then 12:04 is written; then the reader goes on with the second copy. The
-    // copies part, and it ends between 11:59 and 12:00, though nobody wrote these. It reads again, and shows 12:04.
+    // copies part, and it ends between 11:59 and 12:00, though nobody wrote these: the high end is shown. It reads
+    // again, and shows 12:04.
+    let begin = BeginCountRead {
+        reader: 0,
+        choice: BOARD,
+    };
     let mut counting = vec![
-        BeginCountRead(0),
+        begin,
         ReaderStep(0),
         ReaderStep(0),
         WriteCount(Count(12 * 60 + 4)),
     ];
     counting.extend([WriterStep; 4]);
     counting.extend([ReaderStep(0); 2]);
-    counting.push(BeginCountRead(0));
+    counting.push(begin);
     counting.extend([ReaderStep(0); 4]);
     run(&mut page, b"batch 17batch 18", &counting)?;
 

@@ -23,6 +23,12 @@ extern "C" {
  * c1 and c2 are one digit, which is written once and read once, so that each has m - 1 digits of its own. */
 enum lagumtay_layout { LAGUMTAY_PLAIN = 0, LAGUMTAY_FOLDED = 1 };
 
+/* Which end a count read shows where its copies part. Low is what command 04 leaves, which names none; 0D names the
+ * high end. The count shown there is `choice == LAGUMTAY_HIGH ? high : low`; equal copies show their count under either
+ * choice.
+ * crates/radix/specs/Copies.antt, `shown`. */
+enum lagumtay_choice { LAGUMTAY_LOW = 0, LAGUMTAY_HIGH = 1 };
+
 /* The numbers of a page but for the m count bases, which are lent beside it: q version places of this base, the layout,
  * n bytes of record, so many readers. m is 1 to 8, q 1 to 4, n 1 to 256, readers 1 to 16, every base 2 to 256; the
  * layout is one of the two.
@@ -47,15 +53,18 @@ typedef struct {
 } lagumtay_writer;
 
 /* A reader's state. kind 0: idle; 1: a count read; 2: a record read. Steps are those taken of the count read, which has
- * as many as a count write, or of the attempt. Digits gathered of c1 (or v2) stand from digits[0] on, those of c2 (or
- * v1) from digits[8] on; those not gathered, and fields that the kind does not use, are zero. The shared digit of a
- * folded page stands with those of c1, at digits[m - 1]: digits[8 + m - 1] is zero there. The five bytes before steps
- * are padding and hold nothing; no promise speaks of them.
+ * as many as a count write, or of the attempt. The choice is a count read's, LAGUMTAY_LOW or LAGUMTAY_HIGH, as the
+ * command that began it named it. Digits gathered of c1 (or v2) stand from digits[0] on, those of c2 (or v1) from
+ * digits[8] on; those not gathered, and fields that the kind does not use, are zero: so is the choice of an idle reader
+ * and of a record read. The shared digit of a folded page stands with those of c1, at digits[m - 1]: digits[8 + m - 1]
+ * is zero there. The four bytes before steps are padding and hold nothing; no promise speaks of them. The choice lies
+ * in what was padding: who was compiled with the older header, in which that byte held nothing, must be compiled anew.
  * crates/protocol/specs/Memory.antt, `storedReading`. */
 typedef struct {
     uint8_t kind;
     uint8_t allowed;
     uint8_t finished;
+    uint8_t choice;
     size_t steps;
     uint8_t digits[16];
 } lagumtay_reader;
@@ -69,8 +78,8 @@ typedef struct {
     size_t taken;
 } lagumtay_answer;
 
-/* A command for a step, by the kinds 1 to 7 of the commands' bytes, which lagumtay_run lists. A field that its kind
- * does not ask for is not looked at.
+/* A command for a step, by the kinds of the commands' bytes, which lagumtay_run lists: 1 to 7 and 0x0D. A field that
+ * its kind does not ask for is not looked at.
  * crates/lagumtay/specs/Step.antt, `commandOf`. */
 typedef struct {
     uint8_t kind;
@@ -81,13 +90,15 @@ typedef struct {
 } lagumtay_command;
 
 /* What a step tells beside its refusal, by the kinds of the log's entries. kind 0: no read finished; 1: a count shown;
- * 2: a record accepted; 3: a read gave up; 4: between two counts, the low end and the high end. Fields that the kind
- * does not have are zero.
+ * 2: a record accepted; 3: a read gave up; 4: between two counts, the low end and the high end, and the choice with
+ * which the read was begun, which no other kind tells. Fields that the kind does not have are zero. The choice lies in
+ * what was padding: who was compiled with the older header must be compiled anew.
  * crates/lagumtay/specs/Step.antt, `entryOf`. */
 typedef struct {
     uint8_t kind;
     uint8_t reader;
     uint8_t attempts;
+    uint8_t choice;
     uint32_t version;
     uint64_t count;
     uint64_t low;
@@ -117,6 +128,7 @@ LAGUMTAY_ASSERT(sizeof(lagumtay_reader) == 32);
 LAGUMTAY_ASSERT(offsetof(lagumtay_reader, kind) == 0);
 LAGUMTAY_ASSERT(offsetof(lagumtay_reader, allowed) == 1);
 LAGUMTAY_ASSERT(offsetof(lagumtay_reader, finished) == 2);
+LAGUMTAY_ASSERT(offsetof(lagumtay_reader, choice) == 3);
 LAGUMTAY_ASSERT(offsetof(lagumtay_reader, steps) == 8);
 LAGUMTAY_ASSERT(offsetof(lagumtay_reader, digits) == 16);
 LAGUMTAY_ASSERT(sizeof(lagumtay_answer) == 24);
@@ -133,6 +145,7 @@ LAGUMTAY_ASSERT(sizeof(lagumtay_outcome) == 32);
 LAGUMTAY_ASSERT(offsetof(lagumtay_outcome, kind) == 0);
 LAGUMTAY_ASSERT(offsetof(lagumtay_outcome, reader) == 1);
 LAGUMTAY_ASSERT(offsetof(lagumtay_outcome, attempts) == 2);
+LAGUMTAY_ASSERT(offsetof(lagumtay_outcome, choice) == 3);
 LAGUMTAY_ASSERT(offsetof(lagumtay_outcome, version) == 4);
 LAGUMTAY_ASSERT(offsetof(lagumtay_outcome, count) == 8);
 LAGUMTAY_ASSERT(offsetof(lagumtay_outcome, low) == 16);
@@ -145,7 +158,7 @@ enum lagumtay_refusal {
     LAGUMTAY_OK = 0,
     LAGUMTAY_BAD_FORMAT = 1,         /* a number of the format is outside its range */
     LAGUMTAY_WRONG_LENGTH = 2,       /* page, readers, buffers or record differ in length from the format; the records
-                                        are no multiple of n; the packed bytes are not 27 for each reader */
+                                        are no multiple of n; the packed bytes are not 28 for each reader */
     LAGUMTAY_INVALID_STATE = 3,      /* a digit at or above its base, or a state that no steps could hold */
     LAGUMTAY_COUNT_TOO_LARGE = 4,    /* a count not below the product of the bases */
     LAGUMTAY_COUNT_DECREASES = 5,    /* a count below the one in c2, to which a shared digit belongs */
@@ -184,12 +197,13 @@ uint8_t lagumtay_open(const lagumtay_format *format, const uint16_t *bases, size
  *               01 write a count (8 bytes)            05 begin a record read (reader, attempts allowed)
  *               02 write a record (2 bytes: index)    06 reader step (reader)
  *               03 writer step                        07 cancel a read (reader)
- *               04 begin a count read (reader)
+ *               04 begin a count read (reader)        0D begin a count read that names the high end (reader)
  *   log       entries of finished reads; 18 bytes free always have room for the next one
  *               01 count shown: the copies were equal (reader, 8 bytes of count)
  *               02 record accepted (reader, attempts used, 4 bytes of version); the record is in the reader's buffer
  *               03 gave up (reader, attempts used); the reader's buffer is all zeros
- *               04 between two counts: the copies differed (reader, 8 bytes of low end, 8 bytes of high end)
+ *               04 between two counts: the copies differed (reader, 8 bytes of low end, 8 bytes of high end); both
+ *                  ends under either choice, which is not told: who needs it knows what began the read
  * crates/protocol/specs/Run.antt, `run`; commands: Command.antt, `decode`; one command: Step.antt, `carry`; log
  * entries: Outcome.antt, `entry`; refusal 3: Load.antt, `validMemory`; this call: crates/lagumtay/specs/Run.antt,
  * `runCall`. */
@@ -199,8 +213,8 @@ uint8_t lagumtay_run(const lagumtay_format *format, const uint16_t *bases, size_
                      size_t commands_len, uint8_t *log, size_t log_len, lagumtay_answer *answer);
 
 /* Carry out one command and tell how it ended, with no bytes and no log: the checks of a run, then the command. Refusal
- * 12 is never answered. An unknown kind is refusal 11, after 1 to 3. A refused step changes nothing but the outcome,
- * which it makes kind 0.
+ * 12 is never answered. A kind other than 1 to 7 and 0x0D is refusal 11, after 1 to 3. A refused step changes nothing
+ * but the outcome, which it makes kind 0.
  *   records   as for lagumtay_run
  * crates/protocol/specs/Step.antt, `carry`; this call: crates/lagumtay/specs/Step.antt, `stepCall`, with `stepLent` of
  * crates/page/specs/Calls.antt. */
@@ -217,8 +231,9 @@ uint8_t lagumtay_cancel(const lagumtay_format *format, const uint16_t *bases, si
                         const uint8_t *buffers, size_t buffers_len, const uint8_t *records, size_t records_len,
                         uint8_t who);
 
-/* Put readers' states into bytes, 27 for each: kind, allowed, finished, steps (8 bytes, high byte first), 16 digits. It
- * checks only that there are so many bytes; if not, it answers refusal 2 and writes nothing. Any states can be packed.
+/* Put readers' states into bytes, 28 for each: kind, allowed, finished, choice, steps (8 bytes, high byte first), 16
+ * digits. It checks only that there are so many bytes; if not, it answers refusal 2 and writes nothing. Any states can
+ * be packed.
  * crates/codec/specs/Packed.antt, `packed`; crates/packed/specs/States.antt, `packAll`; this call:
  * crates/lagumtay/specs/Calls.antt, `packCall`. */
 uint8_t lagumtay_pack(const lagumtay_reader *readers, size_t readers_len, uint8_t *bytes, size_t bytes_len);
@@ -236,11 +251,14 @@ uint8_t lagumtay_unpack(lagumtay_reader *readers, size_t readers_len, const uint
  * `GeneralClaim`; over one list of records throughout, `Claim`. A step counts as the run of its one command with a log
  * that has room: crates/page/specs/Calls.antt, `CarriesStep`, in the contract of lagumtay_step. */
 
-/* Every finished count read ends as shown or between. A read's span goes from the last count fully written before its
- * first step to the last one begun before its last step. A count shown lies in the span, and somebody wrote it: it is
- * the opening's, or that of a write begun before the read's last step. Between: the low end is below the high end, and
- * both lie in the span, though perhaps nobody wrote them. Who wants one number takes the high end, which document 01
- * shows (`shown` of crates/radix/specs/Copies.antt). Demand.antt, `CountEnds`, `InSpan`, `Begun`. */
+/* Every finished count read ends with equal copies or between two counts. A read's span goes from the last count fully
+ * written before its first step to the last one begun before its last step. The count shown, by the choice of the
+ * command that began the read, lies in the span, and so do both ends. Equal copies show their count under either
+ * choice, and somebody wrote it: it is the opening's, or that of a write begun before the read's last step. Between:
+ * the low end is below the high end, though perhaps nobody wrote them; a read begun by 04 shows the low end, one begun
+ * by 0D the high end (`shown` of crates/radix/specs/Copies.antt). The low end may be above every count fully written
+ * (bases 10 and 10, 05 half turned into 30: 09 is shown); nothing more is promised of it. Demand.antt, `CountEnds`,
+ * `InSpan`, `Begun`. */
 
 /* An accepted record is whole: the bytes in the buffer, right after the step that accepted it, are those of one
  * write, and the version is the number of that write, 0 for the opening. Take them before that reader steps again: the

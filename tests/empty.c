@@ -21,7 +21,7 @@ struct lent {
     uint8_t buffers[READERS * N + 1];
     uint8_t record[N + 1];
     uint8_t log[18];
-    uint8_t packed[READERS * 27 + 1];
+    uint8_t packed[READERS * 28 + 1];
 };
 
 /* The lengths that a call is told; a negative one is a null pointer with length 0. */
@@ -29,7 +29,7 @@ struct lengths {
     int bases, page, readers, buffers, record, packed;
 };
 
-static const struct lengths right = {M, PAGE, READERS, READERS * N, N, READERS * 27};
+static const struct lengths right = {M, PAGE, READERS, READERS * N, N, READERS * 28};
 static struct lent lent;
 static int checks;
 
@@ -65,12 +65,12 @@ static uint8_t run(struct lengths l) {
 /* A step of reader 0. */
 static uint8_t step(struct lengths l) {
     static const lagumtay_command command = {.kind = 6, .reader = 0};
-    lagumtay_outcome outcome = {9, 9, 9, 9, 9, 9, 9};
+    lagumtay_outcome outcome = {9, 9, 9, 9, 9, 9, 9, 9};
     uint8_t why = lagumtay_step(&lent.format, LIST(lent.bases, l.bases), LIST(lent.page, l.page), &lent.writer,
                                 LIST(lent.readers, l.readers), LIST(lent.buffers, l.buffers),
                                 LIST(lent.record, l.record), &command, &outcome);
-    check(outcome.kind == 0 && outcome.reader == 0 && outcome.attempts == 0 && outcome.version == 0
-              && outcome.count == 0 && outcome.low == 0 && outcome.high == 0, "step",
+    check(outcome.kind == 0 && outcome.reader == 0 && outcome.attempts == 0 && outcome.choice == 0
+              && outcome.version == 0 && outcome.count == 0 && outcome.low == 0 && outcome.high == 0, "step",
           "a step that ends no read tells zeros");
     return why;
 }
@@ -108,9 +108,10 @@ static void room_for(int size, const char *what) {
     logged(last, sizeof last, size, LAGUMTAY_OK, size, what);
 }
 
-/* Count reads of copies that are equal, and of copies that part: 0:06 is written after the first copy was read. */
-static void rooms(void) {
-    static const uint8_t reading[] = {4, 0, 6, 0, 6, 0}, step[] = {6, 0};
+/* Count reads begun by this command, of copies that are equal, and of copies that part: 0:06 is written after the first
+ * copy was read. */
+static void rooms(uint8_t begin) {
+    const uint8_t reading[] = {begin, 0, 6, 0, 6, 0}, step[] = {6, 0};
     static const uint8_t writing[] = {1, 0, 0, 0, 0, 0, 0, 0, 6, 3, 3, 3, 3};
     check(opening(right) == LAGUMTAY_OK, "open", "for the logs");
     logged(reading, sizeof reading, -1, LAGUMTAY_OK, 0, "a read without a log");
@@ -122,11 +123,11 @@ static void rooms(void) {
     room_for(18, "copies that part");
 }
 
-/* The five padding bytes of a state hold nothing and no promise speaks of them: a call may write them. This archive
+/* The four padding bytes of a state hold nothing and no promise speaks of them: a call may write them. This archive
  * writes none of them, which is seen here only so that another one is noticed. */
 static void padding(const char *call) {
     for (size_t r = 0; r < READERS; r++)
-        for (size_t k = 3; k < offsetof(lagumtay_reader, steps); k++)
+        for (size_t k = offsetof(lagumtay_reader, choice) + 1; k < offsetof(lagumtay_reader, steps); k++)
             check(((const uint8_t *)&lent.readers[r])[k] == 0xaa, call, "padding is touched");
 }
 
@@ -184,16 +185,20 @@ int main(void) {
     lengths_of("pack", pack, 2, 3);
     lengths_of("pack", pack, 5, 6);
     check(pack(right) == LAGUMTAY_OK, "pack", "the right lengths");
-    check(lent.packed[0] == 1 && lent.packed[10] == 1 && lent.packed[27] == 0, "pack", "the states");
+    check(lent.packed[0] == 1 && lent.packed[3] == 0 && lent.packed[11] == 1 && lent.packed[28] == 0, "pack",
+          "the states");
     lengths_of("unpack", unpack, 2, 3);
     lengths_of("unpack", unpack, 5, 6);
-    lent.packed[10] = 2;
+    lent.packed[3] = LAGUMTAY_HIGH;
+    lent.packed[11] = 2;
     check(unpack(right) == LAGUMTAY_OK, "unpack", "the right lengths");
-    check(lent.readers[0].kind == 1 && lent.readers[0].steps == 2, "unpack", "the states");
+    check(lent.readers[0].kind == 1 && lent.readers[0].choice == LAGUMTAY_HIGH && lent.readers[0].steps == 2, "unpack",
+          "the states");
     padding("unpack");
     const struct lengths none = {-1, -1, -1, -1, -1, -1};
     check(pack(none) == LAGUMTAY_OK && unpack(none) == LAGUMTAY_OK, "pack", "no states in no bytes");
-    rooms();
+    rooms(4);
+    rooms(0x0D);
     printf("%d checks passed\n", checks);
     return 0;
 }

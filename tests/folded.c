@@ -1,5 +1,5 @@
-/* Folded pages: their length, the digit that each step moves, what a reader's state holds then, and the refusals in
- * which they differ from plain ones.
+/* Folded pages: their length, the digit that each step moves, what a reader's state holds then, with its choice, and the
+ * refusals in which they differ from plain ones.
  *
  *     cc -std=c11 -Iinclude tests/folded.c target/staticlib/liblagumtay.a -o target/folded && target/folded
  */
@@ -142,16 +142,17 @@ static void one_write_one_read(void) {
             quiet(6, 0, 1, "a reader step");
     }
     check(step((lagumtay_command){.kind = 6}, &outcome) == LAGUMTAY_OK, "the last step of a read");
-    check(outcome.kind == 1 && outcome.reader == 0 && outcome.count == 456, "the count shown");
+    check(outcome.kind == 1 && outcome.reader == 0 && outcome.choice == 0 && outcome.count == 456, "the count shown");
     check(lent.readers[0].kind == 0 && memcmp(lent.readers[0].digits, digits[0], 16) == 0, "the read is over");
     check(step((lagumtay_command){.kind = 6}, &outcome) == LAGUMTAY_NOTHING_PENDING, "no sixth step of a read");
 }
 
 /* After a read took 0, 9 and the shared 9, so many steps are taken of the write by which 099 becomes 100. The read goes
- * on with 0 and 1 of c2: b is 1, 0 and the same 9. */
-static void parting(int written) {
+ * on with 0 and 1 of c2: b is 1, 0 and the same 9. Both ends are told under either choice. */
+static void parting(int written, uint8_t begin, uint8_t choice) {
     open_with(3, 10, 99);
-    quiet(4, 0, 1, "begin a count read");
+    quiet(begin, 0, 1, "begin a count read");
+    check(lent.readers[0].kind == 1 && lent.readers[0].choice == choice, "the choice of a read");
     quiet(6, 0, 3, "the digits of a");
     quiet(1, 100, 1, "announce a count");
     quiet(3, 0, written, "steps of the write");
@@ -160,6 +161,9 @@ static void parting(int written) {
     lagumtay_outcome outcome;
     check(step((lagumtay_command){.kind = 6}, &outcome) == LAGUMTAY_OK, "the last step of a read");
     check(outcome.kind == 4 && outcome.low == 99 && outcome.high == 100, "both ends");
+    check(outcome.choice == choice, "the choice that is told");
+    check((outcome.choice == LAGUMTAY_HIGH ? outcome.high : outcome.low) == 99 + (uint64_t)choice, "the count shown");
+    check(lent.readers[0].kind == 0 && lent.readers[0].choice == 0, "the read is over");
 }
 
 /* One place: one step writes it, one reads it, and no read is between two counts. */
@@ -202,6 +206,21 @@ static void states(size_t places) {
     struct memory good = lent;
     lagumtay_reader *reader = &lent.readers[0];
 
+    for (int choice = 1; choice < 256; choice++) {
+        lent.readers[1].choice = (uint8_t)choice;
+        damaged(&good, "a choice of an idle reader");
+        lent.readers[1] = (lagumtay_reader){.kind = 2, .allowed = 1, .choice = (uint8_t)choice};
+        damaged(&good, "a choice of a record read");
+        reader->choice = (uint8_t)choice;
+        if (choice > LAGUMTAY_HIGH)
+            damaged(&good, "a third choice of a count read");
+        else
+            check(looked_at(folded_length()) == LAGUMTAY_OK, "the other choice of a count read");
+        lent = good;
+    }
+    lent.readers[1] = (lagumtay_reader){.kind = 2, .allowed = 1};
+    check(looked_at(folded_length()) == LAGUMTAY_OK, "a record read without a choice");
+    lent = good;
     reader->steps = 2 * m - 1;
     damaged(&good, "a reader with all steps taken");
     lent.writer.steps = 2 * m - 1;
@@ -248,14 +267,44 @@ static void going_back(size_t places, uint16_t base, uint64_t count) {
     check(step((lagumtay_command){.kind = 1, .count = count - 1}, &outcome) == LAGUMTAY_OK, "a lower shared digit");
 }
 
+/* 0D is checked as 04 is, whichever of them began the read that is met. */
+static void beginning(uint8_t begin, uint8_t choice) {
+    open_with(2, 10, 57);
+    quiet(begin, 0, 1, "begin a count read");
+    quiet(6, 0, 2, "the digits of a");
+    const struct memory begun = lent;
+    static const uint8_t kinds[] = {4, 0x0D};
+    for (size_t i = 0; i < sizeof kinds; i++) {
+        lagumtay_outcome outcome = {9, 9, 9, 9, 9, 9, 9, 9};
+        check(step((lagumtay_command){.kind = kinds[i], .reader = 0}, &outcome) == LAGUMTAY_BUSY, "a busy reader");
+        check(outcome.kind == 0 && outcome.choice == 0, "a refused begin tells nothing");
+        check(step((lagumtay_command){.kind = kinds[i], .reader = READERS}, &outcome) == LAGUMTAY_NO_SUCH, "no reader");
+    }
+    check(memcmp(&lent, &begun, sizeof lent) == 0, "a refused begin changes nothing");
+    lagumtay_outcome outcome;
+    check(step((lagumtay_command){.kind = 6}, &outcome) == LAGUMTAY_OK, "the last step of a read");
+    check(outcome.kind == 1 && outcome.choice == 0 && outcome.count == 57, "equal copies under either choice");
+    quiet(begin, 0, 1, "begin again");
+    check(lent.readers[0].choice == choice, "the choice of a read");
+    quiet(7, 0, 1, "cancel");
+    check(lent.readers[0].kind == 0 && lent.readers[0].choice == 0, "a cancelled read");
+    for (uint8_t kind = 8; kind <= 14; kind++)
+        if (kind != 0x0D)
+            check(step((lagumtay_command){.kind = kind}, &outcome) == LAGUMTAY_UNKNOWN_COMMAND, "an unknown kind");
+}
+
 int main(void) {
     for (size_t places = 1; places <= MOST_M; places++) {
         lengths(places);
         states(places);
     }
     one_write_one_read();
-    for (int written = 2; written <= 5; written++)
-        parting(written);
+    for (int written = 2; written <= 5; written++) {
+        parting(written, 4, LAGUMTAY_LOW);
+        parting(written, 0x0D, LAGUMTAY_HIGH);
+    }
+    beginning(4, LAGUMTAY_LOW);
+    beginning(0x0D, LAGUMTAY_HIGH);
     one_place();
     going_back(1, 10, 5);
     going_back(2, 60, 717);

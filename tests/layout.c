@@ -65,11 +65,12 @@ static uint8_t step(void) {
 }
 
 /* What the step told, field by field. */
-static void told(uint64_t kind, uint64_t reader, uint64_t attempts, uint64_t version, uint64_t count, uint64_t low,
-                 uint64_t high) {
+static void told(uint64_t kind, uint64_t reader, uint64_t attempts, uint64_t choice, uint64_t version, uint64_t count,
+                 uint64_t low, uint64_t high) {
     check(at(outcome, 0, 1) == kind, "outcome.kind");
     check(at(outcome, 1, 1) == reader, "outcome.reader");
     check(at(outcome, 2, 1) == attempts, "outcome.attempts");
+    check(at(outcome, 3, 1) == choice, "outcome.choice");
     check(at(outcome, 4, 4) == version, "outcome.version");
     check(at(outcome, 8, 8) == count, "outcome.count");
     check(at(outcome, 16, 8) == low, "outcome.low");
@@ -80,7 +81,7 @@ static void told(uint64_t kind, uint64_t reader, uint64_t attempts, uint64_t ver
 static void quiet(int steps) {
     while (steps-- > 0) {
         check(step() == LAGUMTAY_OK, "step");
-        told(0, 0, 0, 0, 0, 0, 0);
+        told(0, 0, 0, 0, 0, 0, 0, 0);
     }
 }
 
@@ -101,26 +102,32 @@ static void stepping(void) {
     order(3);
     quiet(2 * Q + N);
 
-    order(4);
-    put(command, 1, 2, 1);
-    quiet(1);
-    check(at(readers + 64, 0, 1) == 1, "command.reader of a count read");
-    order(6);
-    put(command, 1, 2, 1);
-    quiet(2 * M - 1);
-    check(step() == LAGUMTAY_OK, "the last step of a count read");
-    told(1, 2, 0, 0, 300, 0, 0);
+    /* Equal copies show their count under either choice, and do not tell it. */
+    const uint64_t begins[] = {4, 0x0D}, choices[] = {LAGUMTAY_LOW, LAGUMTAY_HIGH};
+    for (size_t i = 0; i < 2; i++) {
+        order(begins[i]);
+        put(command, 1, 2, 1);
+        quiet(1);
+        check(at(readers + 64, 0, 3) == 1, "command.reader of a count read");
+        check(at(readers + 64, 3, 1) == choices[i], "reader.choice of a count read");
+        order(6);
+        put(command, 1, 2, 1);
+        quiet(2 * M - 1);
+        check(step() == LAGUMTAY_OK, "the last step of a count read");
+        told(1, 2, 0, 0, 0, 300, 0, 0);
+        check(at(readers + 64, 0, 4) == 0, "the reader of a finished count read");
+    }
 
     order(5);
     put(command, 1, 1, 1);
     put(command, 2, 3, 1);
     quiet(1);
-    check(at(readers + 32, 0, 3) == 0x0302, "command.reader and command.attempts");
+    check(at(readers + 32, 0, 4) == 0x0302, "command.reader and command.attempts");
     order(6);
     put(command, 1, 1, 1);
     quiet(2 * Q + N - 1);
     check(step() == LAGUMTAY_OK, "the last step of a record read");
-    told(2, 1, 1, 1, 0, 0, 0);
+    told(2, 1, 1, 0, 1, 0, 0, 0);
     check(memcmp(buffers + N, records + 2 * N, N) == 0, "the accepted record");
 
     /* v2 is read before the next record write begins, v1 after it was written: the read gives up. */
@@ -140,28 +147,49 @@ static void stepping(void) {
     put(command, 1, 0, 1);
     quiet(Q + N - 1);
     check(step() == LAGUMTAY_OK, "the last step of the last attempt");
-    told(3, 0, 1, 0, 0, 0, 0);
+    told(3, 0, 1, 0, 0, 0, 0, 0);
 
-    order(4);
-    put(command, 1, 0, 1);
-    quiet(1);
-    order(7);
-    put(command, 1, 0, 1);
-    quiet(1);
-    check(step() == LAGUMTAY_NOTHING_PENDING, "nothing to cancel");
-    told(0, 0, 0, 0, 0, 0, 0);
-    order(0);
-    check(step() == LAGUMTAY_UNKNOWN_COMMAND, "kind 0");
-    order(8);
-    check(step() == LAGUMTAY_UNKNOWN_COMMAND, "kind 8");
-    told(0, 0, 0, 0, 0, 0, 0);
+    /* 0D is checked as 04 is: each of them by a busy reader, and by one that is not there. */
+    for (size_t i = 0; i < 2; i++) {
+        order(begins[i]);
+        put(command, 1, 0, 1);
+        quiet(1);
+        check(at(readers, 0, 3) == 1 && at(readers, 3, 1) == choices[i], "a count read to be met");
+        for (size_t k = 0; k < 2; k++) {
+            order(begins[k]);
+            put(command, 1, 0, 1);
+            check(step() == LAGUMTAY_BUSY, "a count read of a busy reader");
+            told(0, 0, 0, 0, 0, 0, 0, 0);
+            put(command, 1, READERS, 1);
+            check(step() == LAGUMTAY_NO_SUCH, "a count read of no reader");
+            told(0, 0, 0, 0, 0, 0, 0, 0);
+        }
+        check(at(readers, 0, 3) == 1 && at(readers, 3, 1) == choices[i], "a refused begin changes no choice");
+        order(7);
+        put(command, 1, 0, 1);
+        quiet(1);
+        check(at(readers, 0, 4) == 0, "a cancelled count read");
+        check(step() == LAGUMTAY_NOTHING_PENDING, "nothing to cancel");
+        told(0, 0, 0, 0, 0, 0, 0, 0);
+    }
+    for (uint64_t kind = 0; kind < 256; kind++)
+        if (kind == 0 || (kind > 7 && kind != 0x0D)) {
+            order(kind);
+            put(command, 1, 0, 1);
+            check(step() == LAGUMTAY_UNKNOWN_COMMAND, "an unknown kind");
+            told(0, 0, 0, 0, 0, 0, 0, 0);
+        }
 }
 
 /* The last step of a count read whose copies part, 1, 3, 1 and 4, 1, 3: through the run and through the step it ends
- * between 1, 7, 8 and 4, 0, 0, and leaves the same. One byte of room short of the entry, the run changes nothing. */
-static void parting(void) {
+ * between 1, 7, 8 and 4, 0, 0, and leaves the same; the step tells the choice too. One byte of room short of the entry,
+ * the run changes nothing. */
+static void parting(uint8_t begin, uint64_t choice) {
     check(opening() == LAGUMTAY_OK, "open for copies that part");
-    check(RUN("\4\1\6\1\6\1\6\1\1\0\0\0\0\0\0\1\54\3\3\3\3\3\3\6\1\6\1") == LAGUMTAY_OK, "a write meets a read");
+    const char begun_by[] = {(char)begin, 1};
+    check(run(begun_by, 2, 0) == LAGUMTAY_OK, "a count read of either choice");
+    check(RUN("\6\1\6\1\6\1\1\0\0\0\0\0\0\1\54\3\3\3\3\3\3\6\1\6\1") == LAGUMTAY_OK, "a write meets a read");
+    check(at(readers + 32, 0, 3) == 1 && at(readers + 32, 3, 1) == choice, "the choice is kept");
     uint8_t begun[sizeof readers], kept_page[sizeof page], kept_writer[sizeof writer], kept_log[sizeof log_bytes];
     memcpy(begun, readers, sizeof readers);
     memcpy(kept_page, page, sizeof page);
@@ -176,48 +204,48 @@ static void parting(void) {
     check(run("\6\1", 2, 18) == LAGUMTAY_OK, "18 bytes of room");
     check(at(answer, 0, 8) == 1 && at(answer, 8, 8) == 18 && at(answer, 16, 8) == 2, "an entry of 18 bytes");
     check(memcmp(log_bytes, "\4\1\0\0\0\0\0\0\0\217\0\0\0\0\0\0\1\40\356\356", 20) == 0, "the log of copies that part");
-    check(at(readers + 32, 0, 3) == 0 && at(readers + 32, 8, 8) == 0, "the reader is idle");
+    check(at(readers + 32, 0, 4) == 0 && at(readers + 32, 8, 8) == 0, "the reader is idle");
 
     memcpy(readers, begun, sizeof readers);
     order(6);
     put(command, 1, 1, 1);
     check(step() == LAGUMTAY_OK, "the step of copies that part");
-    told(4, 1, 0, 0, 0, 143, 288);
-    check(at(readers + 32, 0, 3) == 0 && at(readers + 32, 8, 8) == 0, "the stepped reader is idle");
+    told(4, 1, 0, choice, 0, 0, 143, 288);
+    check(at(readers + 32, 0, 4) == 0 && at(readers + 32, 8, 8) == 0, "the stepped reader is idle");
     check(memcmp(kept_page, page, sizeof page) == 0, "a reader changes no page");
     check(memcmp(kept_writer, writer, sizeof writer) == 0, "a reader changes no writer");
 }
 
 /* Each byte of a state's fields goes to a place of its own, and comes back from there. */
 static void packing(void) {
-    uint8_t packed[READERS * 27 + 1], kept[sizeof readers];
+    uint8_t packed[READERS * 28 + 1], kept[sizeof readers];
     for (size_t i = 0; i < sizeof readers; i++)
         readers[i] = (uint8_t)(i + 1);
     memcpy(kept, readers, sizeof readers);
     memset(packed, 0xee, sizeof packed);
     const lagumtay_reader *from = (const lagumtay_reader *)readers;
-    check(lagumtay_pack(from, READERS, packed, READERS * 27 + 1) == LAGUMTAY_WRONG_LENGTH, "a byte too many");
-    check(lagumtay_pack(from, READERS, packed, READERS * 27 - 1) == LAGUMTAY_WRONG_LENGTH, "a byte too few");
+    check(lagumtay_pack(from, READERS, packed, READERS * 28 + 1) == LAGUMTAY_WRONG_LENGTH, "a byte too many");
+    check(lagumtay_pack(from, READERS, packed, READERS * 28 - 1) == LAGUMTAY_WRONG_LENGTH, "a byte too few");
     for (size_t i = 0; i < sizeof packed; i++)
         check(packed[i] == 0xee, "a refused packing writes nothing");
-    check(lagumtay_pack(from, READERS, packed, READERS * 27) == LAGUMTAY_OK, "pack");
-    check(packed[READERS * 27] == 0xee, "the byte after the last state");
+    check(lagumtay_pack(from, READERS, packed, READERS * 28) == LAGUMTAY_OK, "pack");
+    check(packed[READERS * 28] == 0xee, "the byte after the last state");
     for (size_t r = 0; r < READERS; r++) {
-        const uint8_t *state = readers + 32 * r, *bytes = packed + 27 * r;
-        check(memcmp(bytes, state, 3) == 0, "packed kind, allowed, finished");
+        const uint8_t *state = readers + 32 * r, *bytes = packed + 28 * r;
+        check(memcmp(bytes, state, 4) == 0, "packed kind, allowed, finished, choice");
         for (size_t i = 0; i < 8; i++)
-            check(bytes[3 + i] == state[15 - i], "packed steps, high byte first");
-        check(memcmp(bytes + 11, state + 16, 16) == 0, "packed digits");
+            check(bytes[4 + i] == state[15 - i], "packed steps, high byte first");
+        check(memcmp(bytes + 12, state + 16, 16) == 0, "packed digits");
     }
 
     lagumtay_reader *to = (lagumtay_reader *)readers;
     memset(readers, 0xaa, sizeof readers);
-    check(lagumtay_unpack(to, READERS, packed, READERS * 27 - 1) == LAGUMTAY_WRONG_LENGTH, "unpack a byte too few");
+    check(lagumtay_unpack(to, READERS, packed, READERS * 28 - 1) == LAGUMTAY_WRONG_LENGTH, "unpack a byte too few");
     for (size_t i = 0; i < sizeof readers; i++)
         check(readers[i] == 0xaa, "a refused unpacking writes nothing");
-    check(lagumtay_unpack(to, READERS, packed, READERS * 27) == LAGUMTAY_OK, "unpack");
+    check(lagumtay_unpack(to, READERS, packed, READERS * 28) == LAGUMTAY_OK, "unpack");
     for (size_t r = 0; r < READERS; r++) {
-        check(memcmp(readers + 32 * r, kept + 32 * r, 3) == 0, "unpacked kind, allowed, finished");
+        check(memcmp(readers + 32 * r, kept + 32 * r, 4) == 0, "unpacked kind, allowed, finished, choice");
         check(memcmp(readers + 32 * r + 8, kept + 32 * r + 8, 24) == 0, "unpacked steps and digits");
     }
     check(RUN("") == LAGUMTAY_INVALID_STATE, "such states are judged by the next call");
@@ -273,7 +301,7 @@ int main(void) {
     for (size_t i = 0; i < sizeof writer; i++)
         check(writer[i] == 0, "the opened writer");
     for (size_t r = 0; r < READERS; r++) {
-        check(at(readers, 32 * r, 3) == 0, "an opened reader's kind, allowed, finished");
+        check(at(readers, 32 * r, 4) == 0, "an opened reader's kind, allowed, finished, choice");
         for (size_t i = 8; i < 32; i++)
             check(readers[32 * r + i] == 0, "an opened reader's steps and digits");
     }
@@ -311,13 +339,14 @@ int main(void) {
     check(RUN("\4\1\6\1\6\1\6\1\6\1") == LAGUMTAY_OK, "a count read");
     check(RUN("\5\2\3\6\2\6\2\6\2\6\2\6\2\6\2\6\2\6\2\6\2\6\2\6\2") == LAGUMTAY_OK, "a record read");
     const uint8_t *reader = readers + 32;
-    check(at(reader, 0, 3) == 1, "reader.kind of a count read");
+    check(at(reader, 0, 4) == 1, "reader.kind and reader.choice of a count read");
     check(at(reader, 8, 8) == 4, "reader.steps");
     check(memcmp(reader + 16, "\4\1\3\0\0\0\0\0\0\0\3\0\0\0\0\0", 16) == 0, "reader.digits");
     reader = readers + 64;
     check(at(reader, 0, 1) == 2, "reader.kind of a record read");
     check(at(reader, 1, 1) == 3, "reader.allowed");
     check(at(reader, 2, 1) == 1, "reader.finished");
+    check(at(reader, 3, 1) == 0, "reader.choice of a record read");
     check(at(reader, 8, 8) == 2, "reader.steps of a record read");
     state_field(readers + 32, 0, 1, 3, "reader.kind");
     state_field(readers + 32, 8, 8, 2 * M, "reader.steps");
@@ -325,7 +354,17 @@ int main(void) {
     state_field(readers + 32, 31, 1, 1, "the last digit");
     state_field(readers + 64, 1, 1, 1, "reader.allowed");
     state_field(readers + 64, 2, 1, 3, "reader.finished");
-    check(at(readers, 0, 3) == 0, "reader 0 is idle");
+    /* A count read has one of two choices, a record read and an idle reader have none. */
+    for (uint64_t choice = 1; choice < 256; choice++) {
+        state_field(readers, 3, 1, choice, "reader.choice of an idle reader");
+        state_field(readers + 64, 3, 1, choice, "reader.choice of a record read");
+        if (choice > LAGUMTAY_HIGH)
+            state_field(readers + 32, 3, 1, choice, "reader.choice of a count read");
+    }
+    put(readers + 32, 3, LAGUMTAY_HIGH, 1);
+    check(RUN("") == LAGUMTAY_OK, "the other choice of a count read");
+    put(readers + 32, 3, LAGUMTAY_LOW, 1);
+    check(at(readers, 0, 4) == 0, "reader 0 is idle");
 
     /* The log and the answer's second number. */
     check(RUN("\6\1\6\1") == LAGUMTAY_OK, "the end of the count read");
@@ -336,6 +375,17 @@ int main(void) {
     /* The commands before a refused one are taken, and no byte of its own. */
     check(RUN("\4\1\7\1\6\1\3") == LAGUMTAY_NOTHING_PENDING, "a refused command");
     check(at(answer, 0, 8) == 2 && at(answer, 8, 8) == 0 && at(answer, 16, 8) == 4, "what a refused run answers");
+
+    /* 0D is checked as 04 is, and the kinds around it are unknown. */
+    check(RUN("\15\1\15\1") == LAGUMTAY_BUSY && at(answer, 16, 8) == 2, "0D of a busy reader");
+    check(at(readers + 32, 0, 3) == 1 && at(readers + 32, 3, 1) == LAGUMTAY_HIGH, "0D names the high end");
+    check(RUN("\4\1") == LAGUMTAY_BUSY && at(answer, 16, 8) == 0, "04 of a busy reader");
+    check(RUN("\7\1\4\1") == LAGUMTAY_OK && at(readers + 32, 0, 4) == 1, "04 names none");
+    check(RUN("\7\1\15\3") == LAGUMTAY_NO_SUCH && at(answer, 16, 8) == 2, "0D of no reader");
+    check(RUN("\15") == LAGUMTAY_UNKNOWN_COMMAND && at(answer, 16, 8) == 0, "0D cut short");
+    const char unknown[][2] = {{0, 0}, {8, 0}, {9, 0}, {10, 0}, {11, 0}, {12, 0}, {14, 0}, {15, 0}};
+    for (size_t i = 0; i < sizeof unknown / sizeof *unknown; i++)
+        check(run(unknown[i], 2, 0) == LAGUMTAY_UNKNOWN_COMMAND && at(answer, 0, 8) == 0, "an unknown command");
 
     /* Lists that are empty need no memory. */
     memset(answer, 0xee, sizeof answer);
@@ -353,11 +403,17 @@ int main(void) {
         check(lagumtay_cancel((const lagumtay_format *)format, bases, M, page, sizeof page, (lagumtay_writer *)writer,
                               (lagumtay_reader *)readers, READERS, buffers, sizeof buffers, records, sizeof records,
                               who[i]) == answers[i], "cancel");
-    check(at(readers, 0, 3) == 0 && at(readers, 8, 8) == 0, "the cancelled reader is idle");
+    check(at(readers, 0, 4) == 0 && at(readers, 8, 8) == 0, "the cancelled reader is idle");
     check(buffers[0] == 'a' && buffers[1] == 0, "its buffer keeps its bytes");
+    check(RUN("\15\0\6\0") == LAGUMTAY_OK && at(readers, 3, 1) == LAGUMTAY_HIGH, "a count read to cancel");
+    check(lagumtay_cancel((const lagumtay_format *)format, bases, M, page, sizeof page, (lagumtay_writer *)writer,
+                          (lagumtay_reader *)readers, READERS, buffers, sizeof buffers, records, sizeof records,
+                          0) == LAGUMTAY_OK, "cancel a count read");
+    check(at(readers, 0, 4) == 0 && at(readers, 8, 8) == 0, "the cancelled choice");
 
     stepping();
-    parting();
+    parting(4, LAGUMTAY_LOW);
+    parting(0x0D, LAGUMTAY_HIGH);
     packing();
     printf("%d checks passed\n", checks);
     return 0;

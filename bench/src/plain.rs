@@ -1,9 +1,10 @@
-//! Document 01 in plain Rust, with both ends told where the copies of a count part and with folded pages, over the same
-//! lent memory as the proved archive: the baseline of the bench, and the other side of the fuzz program. It is written
-//! from documents 01 and 02 to be fast: a run checks its memory once, digits eight at a time, and after that a command
-//! costs a look at its kind and one byte moved. What depends on the layout is compiled for each: SHARED is how many
-//! digits the copies of the count share.
-use lagumtay::raw::{Answer, Command, Format, Lent, Outcome, Reader, Writer, FOLDED, LONGEST_ENTRY, PACKED, PLAIN};
+//! Document 01 in plain Rust, with both ends told where the copies of a count part, the choice between them, and folded
+//! pages, over the same lent memory as the proved archive: the baseline of the bench, and the other side of the fuzz
+//! program. It is written from documents 01 and 02 to be fast: a run checks its memory once, digits eight at a time,
+//! and after that a command costs a look at its kind and one byte moved. What depends on the layout is compiled for
+//! each: SHARED is how many digits the copies of the count share.
+use lagumtay::raw::{Answer, Command, Format, Lent, Outcome, Reader, Writer};
+use lagumtay::raw::{FOLDED, HIGH, LONGEST_ENTRY, LOW, PACKED, PLAIN};
 use lagumtay::Refusal::{self, *};
 
 // Kinds of a state, the writer's and a reader's.
@@ -118,19 +119,19 @@ pub fn command_of(bytes: &[u8]) -> Command {
         },
         [2, high, low] => Command { kind: 2, index: u16::from_be_bytes([high, low]), ..none },
         [3] => Command { kind: 3, ..none },
-        [kind @ (4 | 6 | 7), reader] => Command { kind, reader, ..none },
+        [kind @ (4 | 6 | 7 | 13), reader] => Command { kind, reader, ..none },
         [5, reader, attempts] => Command { kind: 5, reader, attempts, ..none },
         _ => none,
     }
 }
 
-/// Readers' states into bytes: kind, allowed, finished, steps with the high byte first, digits.
+/// Readers' states into bytes: kind, allowed, finished, choice, steps with the high byte first, digits.
 pub fn pack(readers: &[Reader], bytes: &mut [u8]) -> Ending {
     ensure(bytes.len() == PACKED * readers.len(), WrongLength)?;
     for (state, reader) in bytes.chunks_exact_mut(PACKED).zip(readers) {
-        state[..3].copy_from_slice(&[reader.kind, reader.allowed, reader.finished]);
-        state[3..11].copy_from_slice(&reader.steps.to_be_bytes());
-        state[11..].copy_from_slice(&reader.digits);
+        state[..4].copy_from_slice(&[reader.kind, reader.allowed, reader.finished, reader.choice]);
+        state[4..12].copy_from_slice(&reader.steps.to_be_bytes());
+        state[12..].copy_from_slice(&reader.digits);
     }
     Ok(())
 }
@@ -140,10 +141,10 @@ pub fn unpack(readers: &mut [Reader], bytes: &[u8]) -> Ending {
     ensure(bytes.len() == PACKED * readers.len(), WrongLength)?;
     for (reader, state) in readers.iter_mut().zip(bytes.chunks_exact(PACKED)) {
         let (mut steps, mut digits) = ([0; 8], [0; 16]);
-        steps.copy_from_slice(&state[3..11]);
-        digits.copy_from_slice(&state[11..]);
-        let [kind, allowed, finished] = [state[0], state[1], state[2]];
-        *reader = Reader { kind, allowed, finished, steps: usize::from_be_bytes(steps), digits };
+        steps.copy_from_slice(&state[4..12]);
+        digits.copy_from_slice(&state[12..]);
+        let [kind, allowed, finished, choice] = [state[0], state[1], state[2], state[3]];
+        *reader = Reader { kind, allowed, finished, choice, steps: usize::from_be_bytes(steps), digits };
     }
     Ok(())
 }
@@ -306,8 +307,10 @@ fn check<const SHARED: usize>(lent: &Lent, records: &[u8]) -> Result<u64, Refusa
     for r in lent.readers.iter() {
         let valid_reader = match r.kind {
             IDLE => *r == Reader::default(),
-            COUNT => r.allowed == 0 && r.finished == 0 && valid_gathered(r, [counts.most, in_c2], all),
-            RECORD => r.finished < r.allowed && valid_gathered(r, [versions; 2], 2 * q + n),
+            COUNT => {
+                r.allowed == 0 && r.finished == 0 && r.choice <= HIGH && valid_gathered(r, [counts.most, in_c2], all)
+            }
+            RECORD => r.finished < r.allowed && r.choice == 0 && valid_gathered(r, [versions; 2], 2 * q + n),
             _ => false,
         };
         ensure(valid_reader, InvalidState)?;
@@ -363,7 +366,7 @@ fn halves(reader: &Reader) -> (u64, u64) {
 /// nothing.
 trait Told {
     fn shown(&mut self, who: u8, count: u64) -> Ending;
-    fn between(&mut self, who: u8, low: u64, high: u64) -> Ending;
+    fn between(&mut self, who: u8, choice: u8, low: u64, high: u64) -> Ending;
     fn accepted(&mut self, who: u8, attempts: u8, version: u32) -> Ending;
     fn gave_up(&mut self, who: u8, attempts: u8) -> Ending;
 }
@@ -374,8 +377,8 @@ impl Told for Outcome {
         Ok(())
     }
 
-    fn between(&mut self, reader: u8, low: u64, high: u64) -> Ending {
-        *self = Outcome { kind: 4, reader, low, high, ..Outcome::default() };
+    fn between(&mut self, reader: u8, choice: u8, low: u64, high: u64) -> Ending {
+        *self = Outcome { kind: 4, reader, choice, low, high, ..Outcome::default() };
         Ok(())
     }
 
@@ -401,7 +404,8 @@ impl Told for Log<'_> {
         self.put([1, who, a, b, c, d, e, f, g, h])
     }
 
-    fn between(&mut self, who: u8, low: u64, high: u64) -> Ending {
+    /// The entry has both ends under either choice.
+    fn between(&mut self, who: u8, _: u8, low: u64, high: u64) -> Ending {
         let mut entry = [0; LONGEST_ENTRY];
         entry[..2].copy_from_slice(&[4, who]);
         entry[2..10].copy_from_slice(&low.to_be_bytes());
@@ -492,10 +496,11 @@ impl<'a, const SHARED: usize> Machine<'a, SHARED> {
             1 => self.begin_count_write(count),
             2 => self.begin_record_write(index.into()),
             3 => self.writer_step(),
-            4 => self.begin_read(reader, COUNT, 0),
+            4 => self.begin_read(reader, COUNT, 0, LOW),
             5 => self.begin_record_read(reader, attempts),
             6 => self.reader_step(reader, outcome),
             7 => self.cancel(reader),
+            13 => self.begin_read(reader, COUNT, 0, HIGH),
             _ => Err(UnknownCommand),
         }
     }
@@ -512,8 +517,8 @@ impl<'a, const SHARED: usize> Machine<'a, SHARED> {
                 self.begin_record_write(u16::from_be_bytes([*high, *low]).into())?;
                 rest
             }
-            (4, [who, rest @ ..]) => {
-                self.begin_read(*who, COUNT, 0)?;
+            (4 | 13, [who, rest @ ..]) => {
+                self.begin_read(*who, COUNT, 0, if kind == 4 { LOW } else { HIGH })?;
                 rest
             }
             (5, [who, allowed, rest @ ..]) => {
@@ -597,14 +602,14 @@ impl<'a, const SHARED: usize> Machine<'a, SHARED> {
     #[inline(always)]
     fn begin_record_read(&mut self, who: u8, allowed: u8) -> Ending {
         ensure(allowed != 0, NoSuch)?;
-        self.begin_read(who, RECORD, allowed)
+        self.begin_read(who, RECORD, allowed, 0)
     }
 
     #[inline(always)]
-    fn begin_read(&mut self, who: u8, kind: u8, allowed: u8) -> Ending {
+    fn begin_read(&mut self, who: u8, kind: u8, allowed: u8, choice: u8) -> Ending {
         let reader = self.readers.get_mut(usize::from(who)).ok_or(NoSuch)?;
         ensure(reader.kind == IDLE, Busy)?;
-        *reader = Reader { kind, allowed, ..Reader::default() };
+        *reader = Reader { kind, allowed, choice, ..Reader::default() };
         Ok(())
     }
 
@@ -710,7 +715,7 @@ fn end_count_read<const SHARED: usize>(
         told.shown(who, counts.value(a))?;
     } else {
         let (low, high) = ends(a, b, counts.most);
-        told.between(who, counts.value(low), counts.value(high))?;
+        told.between(who, reader.choice, counts.value(low), counts.value(high))?;
     }
     *reader = Reader::default();
     Ok(())

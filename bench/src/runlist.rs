@@ -93,11 +93,11 @@ fn opened(input: &[u8], layout: u16) -> Result<Opened<'_>, Refusal> {
 }
 
 /// How many bytes a command has; an unknown kind is refused with any number.
-fn command_length(kind: u8) -> usize {
+pub fn command_length(kind: u8) -> usize {
     match kind {
         1 => 9,
         2 | 5 => 3,
-        4 | 6 | 7 => 2,
+        4 | 6 | 7 | 13 => 2,
         _ => 1,
     }
 }

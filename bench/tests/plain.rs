@@ -1,11 +1,12 @@
-//! The plain implementation against the documents: the printed run, the trap, the edges with both ends, each refusal.
+//! The plain implementation against the documents: the printed run, the trap, the edges with both ends and both choices,
+//! each refusal.
 use std::cmp::Ordering;
 
-use lagumtay::raw::{Answer, Command, Format, Outcome, Reader, Writer, FOLDED, PACKED, PLAIN};
+use lagumtay::raw::{Answer, Command, Format, Outcome, Reader, Writer, FOLDED, HIGH, LOW, PACKED, PLAIN};
 use lagumtay::Refusal;
 use lagumtay_bench::owned::Owned;
 use lagumtay_bench::plain::{self, command_of, number};
-use lagumtay_bench::runlist::printed;
+use lagumtay_bench::runlist::{command_length, printed};
 
 fn bytes(text: &str) -> Vec<u8> {
     let digits: Vec<u8> = text.chars().filter_map(|c| c.to_digit(16)).map(|digit| digit as u8).collect();
@@ -52,7 +53,7 @@ fn run_with(lent: &mut Owned, records: &[u8], commands: &str, room: usize) -> (u
 
 /// The bytes of so many commands.
 fn length_of(commands: &[u8], done: usize) -> usize {
-    (0..done).fold(0, |at, _| at + [1, 9, 3, 1, 2, 3, 2, 2][usize::from(commands[at])])
+    (0..done).fold(0, |at, _| at + command_length(commands[at]))
 }
 
 /// The run's last command is refused by this number and changes nothing.
@@ -74,8 +75,20 @@ fn prints_the_documents_run() {
 
 #[test]
 fn prints_a_count_of_equal_copies() {
-    let input = bytes("01 000A 01 000A 0002 01 0000000000000004 6161 0000 0400 0600 0600");
-    assert_eq!(printed(&input), "C 0 4\nEND 3 0\n");
+    for begin in ["0400", "0d00"] {
+        let input = bytes(&format!("01 000A 01 000A 0002 01 0000000000000004 6161 0000 {begin} 0600 0600"));
+        assert_eq!(printed(&input), "C 0 4\nEND 3 0\n");
+    }
+}
+
+/// Lines of both ends keep their text under either choice.
+#[test]
+fn prints_both_ends_of_either_choice() {
+    for begin in ["0400", "0d00"] {
+        let header = "01 000A 01 000A 0002 01 0000000000000004 6161 0000";
+        let input = bytes(&format!("{header} 010000000000000007 {begin} 0600 03 03 0600 {begin} {begin}"));
+        assert_eq!(printed(&input), "B 0 4 7\nEND 7 6\n");
+    }
 }
 
 #[test]
@@ -90,12 +103,33 @@ fn a_later_read_may_show_less_than_one_that_it_overlaps() {
 
 /// One step before the end of reader 0's count read, with these digits in the copies.
 fn about_to_end(bases: &[u16], a: &[u8], b: &[u8]) -> Owned {
+    about_to_end_as("0400", bases, a, b)
+}
+
+/// The same of a read that this command began.
+fn about_to_end_as(begin: &str, bases: &[u16], a: &[u8], b: &[u8]) -> Owned {
     let mut lent = opened(bases, 0);
     let m = bases.len();
     lent.page[..m].copy_from_slice(a);
     lent.page[m..2 * m].copy_from_slice(b);
-    assert_eq!(run(&mut lent, &format!("0400 {}", "0600".repeat(2 * m - 1))).2, 0);
+    assert_eq!(run(&mut lent, &format!("{begin} {}", "0600".repeat(2 * m - 1))).2, 0);
     lent
+}
+
+/// What a step tells, given in hexadecimal.
+fn step(lent: &mut Owned, command: &str) -> (Outcome, u8) {
+    let (outcome, ending) = plain::step(&mut lent.lend(), RECORDS, &command_of(&bytes(command)));
+    (outcome, number(ending))
+}
+
+/// The count shown by what a step told.
+fn shown(outcome: Outcome) -> u64 {
+    match outcome.kind {
+        1 => outcome.count,
+        4 if outcome.choice == HIGH => outcome.high,
+        4 => outcome.low,
+        kind => panic!("kind {kind} shows no count"),
+    }
 }
 
 fn between(low: u64, high: u64) -> Vec<u8> {
@@ -114,7 +148,55 @@ fn copies_that_part_give_the_ends_of_the_edges() {
         (&[2, 2, 60, 256], &[0, 1, 2, 3], &[1, 1, 2, 3], 2 * 60 * 256 - 1, 2 * 60 * 256),
         (&[256; 8], &[0; 8], &[255; 8], (1 << 56) - 1, 255 << 56),
     ] {
-        assert_eq!(run(&mut about_to_end(bases, a, b), "0600"), (1, between(low, high), 0));
+        for (begin, choice, end) in [("0400", LOW, low), ("0d00", HIGH, high)] {
+            let mut lent = about_to_end_as(begin, bases, a, b);
+            assert_eq!(lent.readers[0].choice, choice);
+            let (outcome, ending) = step(&mut lent.clone(), "0600");
+            assert_eq!((outcome, ending), (Outcome { kind: 4, choice, low, high, ..Outcome::default() }, 0));
+            assert_eq!(shown(outcome), end);
+            assert_eq!(run(&mut lent, "0600"), (1, between(low, high), 0));
+            assert_eq!(lent.readers[0], Reader::default());
+        }
+    }
+}
+
+/// 05 half turned into 30: the low end, 09, is above the only count fully written.
+#[test]
+fn the_low_end_may_be_above_every_count_fully_written() {
+    for (begin, end) in [("0400", 9), ("0d00", 30)] {
+        let mut lent = opened(&[10, 10], 5);
+        assert_eq!(run(&mut lent, &format!("01 000000000000001e 03 03 {begin} 0600 0600 0600")).2, 0);
+        assert_eq!(shown(step(&mut lent, "0600").0), end);
+    }
+}
+
+/// 0D is checked as 04 is.
+#[test]
+fn begins_with_either_choice() {
+    for (begin, choice) in [("04", LOW), ("0d", HIGH)] {
+        let mut lent = opened(&[10], 4);
+        assert_eq!(run(&mut lent, &format!("{begin}01")).2, 0);
+        assert_eq!(lent.readers, [Reader::default(), Reader { kind: 1, choice, ..Reader::default() }]);
+        for other in ["04", "0d"] {
+            refused(&mut lent, "", &format!("{other}01"), 6);
+            refused(&mut lent, "", &format!("{other}02"), 8);
+            refused(&mut lent, "", &format!("{other}ff"), 8);
+            refused(&mut lent, "", other, 11);
+            assert_eq!(step(&mut lent, &format!("{other}01")), (Outcome::default(), 6));
+            assert_eq!(step(&mut lent, &format!("{other}02")), (Outcome::default(), 8));
+        }
+        let opened = opened(&[10], 4);
+        assert_eq!(run(&mut lent, "0701"), (1, vec![], 0));
+        assert_eq!(lent, opened);
+        // Equal copies show their count, and a step tells no choice of them.
+        assert_eq!(run(&mut lent, &format!("{begin}01 0601")).2, 0);
+        let equal = Outcome { kind: 1, reader: 1, count: 4, ..Outcome::default() };
+        assert_eq!(step(&mut lent, "0601"), (equal, 0));
+        assert_eq!(lent, opened);
+        // A busy reader is busy with any read.
+        refused(&mut lent, "050102", &format!("{begin}01"), 6);
+        assert_eq!(run(&mut lent, "0701").2, 0);
+        refused(&mut lent, &format!("{begin}01"), "050102", 6);
     }
 }
 
@@ -269,12 +351,18 @@ fn refusal_3_invalid_state() {
         |lent| lent.readers[0].steps = 4,
         |lent| lent.readers[0].allowed = 1,
         |lent| lent.readers[0].finished = 1,
+        |lent| lent.readers[0].choice = 2,
+        |lent| lent.readers[0].choice = 255,
         |lent| lent.readers[0].digits[1] = 10,
         |lent| lent.readers[0].digits[2] = 1,
         |lent| lent.readers[0].digits[8] = 1,
         |lent| lent.readers[0].digits[9] = 10,
         |lent| lent.readers[0].digits[10] = 1,
         |lent| lent.readers[0].steps = 2,
+        |lent| lent.readers[0] = Reader { choice: 1, ..Reader::default() },
+        |lent| lent.readers[0] = Reader { choice: 2, ..Reader::default() },
+        |lent| lent.readers[1].choice = 1,
+        |lent| lent.readers[1].choice = 2,
         |lent| lent.readers[1].finished = 2,
         |lent| lent.readers[1].steps = 4,
         |lent| lent.readers[1].digits[0] = 10,
@@ -290,6 +378,10 @@ fn refusal_3_invalid_state() {
         assert_eq!(plain::cancel(&mut lent.lend(), RECORDS, 9), Err(Refusal::InvalidState));
         assert_eq!(lent, before);
     }
+    // A count read may have either choice.
+    let mut lent = begun();
+    lent.readers[0].choice = HIGH;
+    assert_eq!(run(&mut lent, "03"), (1, vec![], 0));
 }
 
 /// A write and a read of a folded page, each one step before its end.
@@ -309,6 +401,8 @@ fn refusal_3_on_a_folded_page() {
         |lent| lent.page[5] = 200,
         |lent| lent.page[8] = 200,
         |lent| lent.writer.steps = 5,
+        |lent| lent.readers[0].choice = 2,
+        |lent| lent.readers[1].choice = 1,
         |lent| lent.readers[0].steps = 5,
         |lent| lent.readers[0].steps = 3,
         |lent| lent.readers[0].digits[2] = 10,
@@ -329,6 +423,7 @@ fn refusal_3_on_a_folded_page() {
     let mut lent = begun();
     lent.page[5] = 199;
     lent.page[6..8].fill(255);
+    lent.readers[0].choice = 1;
     lent.readers[0].digits[9] = 9;
     assert_eq!(run(&mut lent, "03"), (1, vec![], 0));
 }
@@ -370,13 +465,21 @@ fn ends_all_pairs_of_folded_copies() {
         let mut lent = opened_folded(&bases, 0);
         lent.page[..3].copy_from_slice(&digits(a));
         lent.page[3..5].copy_from_slice(&digits(b)[..2]);
-        assert_eq!(run(&mut lent, "0400 0600 0600 0600 0600").2, 0);
+        // Reader 1 gathers the same and names the high end.
+        assert_eq!(run(&mut lent, "0400 0600 0600 0600 0600 0d01 0601 0601 0601 0601").2, 0);
         match a.cmp(&b) {
-            Ordering::Equal => assert_eq!(run(&mut lent, "0600").1, bytes(&format!("01 00 {a:016x}"))),
-            Ordering::Greater => refused(&mut lent, "", "0600", 10),
+            Ordering::Equal => {
+                assert_eq!(run(&mut lent.clone(), "0600").1, bytes(&format!("01 00 {a:016x}")));
+                assert_eq!(["0600", "0601"].map(|last| shown(step(&mut lent, last).0)), [a.into(); 2]);
+            }
+            Ordering::Greater => {
+                refused(&mut lent, "", "0600", 10);
+                refused(&mut lent, "", "0601", 10);
+            }
             Ordering::Less => {
                 let (low, high) = ends(&bases, &digits(a), &digits(b));
-                assert_eq!(run(&mut lent, "0600").1, between(low, high));
+                assert_eq!(run(&mut lent.clone(), "0600").1, between(low, high));
+                assert_eq!(["0600", "0601"].map(|last| shown(step(&mut lent, last).0)), [low, high]);
             }
         }
     }
@@ -427,7 +530,10 @@ fn refusals_4_to_9() {
 #[test]
 fn refusal_11_unknown_command() {
     let mut lent = opened(&[10], 4);
-    for command in ["00", "08", "ff", "01 00000000000000", "02 00", "04", "05 09", "06", "07"] {
+    for command in ["00", "ff", "01 00000000000000", "02 00", "04", "05 09", "06", "07", "0d"] {
+        refused(&mut lent, "", command, 11);
+    }
+    for command in ["08", "0800", "0900", "0a00", "0b00", "0c00", "0e00", "0f00"] {
         refused(&mut lent, "", command, 11);
     }
 }
@@ -439,6 +545,7 @@ fn refusal_12_log_full() {
         ("050001 0600 0600 0600", "0600", "02 00 01 00000000"),
         ("050001 0600 020000 03 0600 0600", "0600", "03 00 01"),
         ("0400 0600 01 0000000000000007 03", "0600", "04 00 0000000000000004 0000000000000007"),
+        ("0d00 0600 01 0000000000000007 03", "0600", "04 00 0000000000000004 0000000000000007"),
     ] {
         let mut lent = opened(&[10], 4);
         assert_eq!(run(&mut lent, begin).2, 0);
@@ -455,18 +562,19 @@ fn refusal_12_log_full() {
 #[test]
 fn steps_as_it_runs() {
     let nothing = Outcome::default();
-    let step = |lent: &mut Owned, command: &str| plain::step(&mut lent.lend(), RECORDS, &command_of(&bytes(command)));
     let mut stepped = opened(&[10], 4);
     let mut ran = stepped.clone();
     // Reader 1 gives up after two attempts that a record write meets, then reader 0 accepts; then a count is shown, and
-    // a count read meets a write.
+    // two count reads meet a write, one of each choice.
     let torn = "050102 0601 020001 03 0601 0601 0601 0601 0601 0601 | 0601 03 03 03 050001 0600 0600 0600 | 0600 \
-                01,0000000000000007 03 03 0401 0601 | 0601 0401 0601 01,0000000000000009 03 | 0601 03 0401 0701";
+                01,0000000000000007 03 03 0401 0601 | 0601 0401 0601 0d00 0600 01,0000000000000009 03 | 0601 | 0600 \
+                03 0401 0701 0d01 0701";
     let mut told = [
         Outcome { kind: 3, reader: 1, attempts: 2, ..nothing },
         Outcome { kind: 2, reader: 0, attempts: 1, version: 1, ..nothing },
         Outcome { kind: 1, reader: 1, count: 7, ..nothing },
-        Outcome { kind: 4, reader: 1, low: 7, high: 9, ..nothing },
+        Outcome { kind: 4, reader: 1, choice: LOW, low: 7, high: 9, ..nothing },
+        Outcome { kind: 4, reader: 0, choice: HIGH, low: 7, high: 9, ..nothing },
     ]
     .into_iter();
     let mut ends = false;
@@ -477,10 +585,11 @@ fn steps_as_it_runs() {
         }
         let outcome = if ends { told.next().unwrap() } else { nothing };
         ends = false;
-        assert_eq!(step(&mut stepped, command), (outcome, Ok(())), "{command}");
+        assert_eq!(step(&mut stepped, command), (outcome, 0), "{command}");
         assert_eq!(run(&mut ran, command).2, 0);
         assert_eq!(stepped, ran);
     }
+    assert_eq!(told.next(), None);
     for (command, why) in [
         ("", Refusal::UnknownCommand),
         ("03", Refusal::NothingPending),
@@ -488,12 +597,13 @@ fn steps_as_it_runs() {
         ("01,0000000000000006", Refusal::CountDecreases),
         ("020002", Refusal::NoSuch),
         ("050000", Refusal::NoSuch),
+        ("0dff", Refusal::NoSuch),
         ("06ff", Refusal::NoSuch),
         ("0701", Refusal::NothingPending),
     ] {
-        assert_eq!(step(&mut stepped, command), (nothing, Err(why)), "{command}");
+        assert_eq!(step(&mut stepped, command), (nothing, why as u8), "{command}");
     }
-    for kind in [0, 8, 255] {
+    for kind in [0, 8, 9, 10, 11, 12, 14, 255] {
         let unknown = Command { kind, reader: 255, ..Command::default() };
         assert_eq!(plain::step(&mut stepped.lend(), RECORDS, &unknown), (nothing, Err(Refusal::UnknownCommand)));
         // The checks at the start come before the command is looked at.
@@ -505,14 +615,14 @@ fn steps_as_it_runs() {
 #[test]
 fn packs_and_unpacks() {
     let digits = std::array::from_fn(|i| 0xa0 + i as u8);
-    let reader = Reader { kind: 1, allowed: 2, finished: 3, steps: 0x0405_0607_0809_0a0b, digits };
+    let reader = Reader { kind: 1, allowed: 2, finished: 3, choice: 4, steps: 0x0506_0708_090a_0b0c, digits };
     let readers = [Reader::default(), reader];
     let mut packed = [0xee; 2 * PACKED];
     assert_eq!(plain::pack(&readers, &mut packed), Ok(()));
-    assert_eq!(packed[..27], [0; 27]);
-    assert_eq!(packed[27..], bytes("01 02 03 0405060708090a0b a0a1a2a3a4a5a6a7 a8a9aaabacadaeaf"));
+    assert_eq!(packed[..28], [0; 28]);
+    assert_eq!(packed[28..], bytes("01 02 03 04 05060708090a0b0c a0a1a2a3a4a5a6a7 a8a9aaabacadaeaf"));
     let mut back = [Reader::default(); 2];
-    assert_eq!(plain::unpack(&mut back, &packed[..53]), Err(Refusal::WrongLength));
+    assert_eq!(plain::unpack(&mut back, &packed[..55]), Err(Refusal::WrongLength));
     assert_eq!(back, [Reader::default(); 2]);
     assert_eq!(plain::unpack(&mut back, &packed), Ok(()));
     assert_eq!(back, readers);

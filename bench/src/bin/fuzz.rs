@@ -5,17 +5,22 @@
 //! A case is a page, plain or folded, with a row of calls, each from what the one before left: mostly schedules that go
 //! on, with damage to a byte, a field or a length now and then, and some cases of nothing but garbage. Every call goes to
 //! both, and all that was lent is compared: format, bases, page, writer, readers, buffers, records, commands, log, packed
-//! bytes, and the answer or the outcome. (Of the readers' states all fields are compared; the five bytes of padding have
-//! no contents.) CASE replays that one alone. Exit status 1: some call differed.
+//! bytes, and the answer or the outcome. (Of the readers' states all fields are compared; the four bytes of padding have
+//! no contents.) CASE replays that one alone. Exit status 1: some call differed, or many calls did not meet all that
+//! there is of the choice between two ends.
 use std::fmt;
 
-use lagumtay::raw::{self, Answer, Command, Format, Outcome, Reader, Writer, FOLDED, LONGEST_ENTRY, PACKED, PLAIN};
+use lagumtay::raw::{self, Answer, Command, Format, Outcome, Reader, Writer};
+use lagumtay::raw::{FOLDED, HIGH, LONGEST_ENTRY, LOW, PACKED, PLAIN};
 use lagumtay::{Entries, Entry};
 use lagumtay_bench::owned::Owned;
 use lagumtay_bench::plain::{self, command_of, number};
 use lagumtay_bench::random::Random;
+use lagumtay_bench::runlist::command_length;
 
 const MOST_SHOWN: u64 = 10;
+/// So many calls must meet all of [`Choices`].
+const MANY: u64 = 10_000;
 /// The bytes of the entry of a count shown.
 const COUNT_ENTRY: usize = 10;
 
@@ -104,6 +109,45 @@ impl Call {
         (outcome.kind == 4).then(|| self.log.len() - answer.written)
     }
 
+    /// Of a run that gives this answer: how many of its reads end between two counts, by their choice, which no log
+    /// tells.
+    fn will_part(&self, answer: Answer) -> [u64; 2] {
+        let mut lent = self.lent.clone();
+        let mut rest = &self.commands[..answer.taken];
+        let mut parting = [0; 2];
+        while let Some(&kind) = rest.first() {
+            let (command, after) = rest.split_at(command_length(kind));
+            let (outcome, _) = plain::step(&mut lent.lend(), &self.records, &command_of(command));
+            if outcome.kind == 4 {
+                parting[usize::from(outcome.choice)] += 1;
+            }
+            rest = after;
+        }
+        parting
+    }
+
+    /// Of a call that is refused by 3: the kind of a state that has a strange choice, if nothing else is strange.
+    fn strange_choice(&self) -> Option<u8> {
+        let mut mended = self.clone();
+        let mut kind = None;
+        for reader in &mut mended.lent.readers {
+            if reader.choice > if reader.kind == 1 { HIGH } else { LOW } {
+                reader.choice = LOW;
+                kind = Some(reader.kind);
+            }
+        }
+        kind.filter(|_| !mended.damaged())
+    }
+
+    /// The kind of the command by which a run or a step was refused.
+    fn refused_kind(&self, answer: Answer) -> Option<u8> {
+        match self.function {
+            Function::Run => self.commands.get(answer.taken).copied(),
+            Function::Step => Some(self.command.kind),
+            _ => None,
+        }
+    }
+
     /// Would a run, a step or a cancel be refused by 1, 2 or 3?
     fn damaged(&self) -> bool {
         plain::run(&mut self.lent.clone().lend(), &self.records, &[], &mut []).1.is_err()
@@ -144,12 +188,63 @@ struct Totals {
     folded_reads: [u64; 5],
     /// entries of copies that part which did not fit, by the bytes left in the log
     parting: [u64; LONGEST_ENTRY],
+    choices: Choices,
     differed: u64,
 }
 
+/// What was met of the choice between two ends.
+#[derive(Default)]
+struct Choices {
+    /// reads that ended between two counts in runs, by their choice
+    runs: [u64; 2],
+    /// the same in steps
+    steps: [u64; 2],
+    /// calls refused by 3 for a choice alone, by the kind of the state that has it
+    strange: [u64; 3],
+    /// commands 0D refused by 6, 8 and 11
+    refused: [u64; 3],
+}
+
+impl Choices {
+    /// A call as it was made, and what it told.
+    fn add(&mut self, before: &Call, Told { answer, outcome }: Told, ending: u8) {
+        match before.function {
+            Function::Run if answer.written >= LONGEST_ENTRY => add_to(&mut self.runs, before.will_part(answer)),
+            Function::Step if outcome.kind == 4 => self.steps[usize::from(outcome.choice)] += 1,
+            // An opening asks nothing of the states; the last two answer no 3.
+            Function::Open | Function::Pack | Function::Unpack => return,
+            _ => {}
+        }
+        if ending == 3 {
+            before.strange_choice().into_iter().for_each(|kind| self.strange[usize::from(kind)] += 1);
+        }
+        if before.refused_kind(answer) == Some(13) {
+            let by = [6, 8, 11].iter().position(|&why| why == ending);
+            by.into_iter().for_each(|by| self.refused[by] += 1);
+        }
+    }
+
+    /// Was all of it met?
+    fn all(&self) -> bool {
+        let Choices { runs, steps, strange, refused } = self;
+        [&runs[..], steps, strange, refused].concat().iter().all(|&times| times > 0)
+    }
+}
+
+impl fmt::Display for Choices {
+    fn fmt(&self, f: &mut fmt::Formatter) -> fmt::Result {
+        let Choices { runs, steps, strange: [idle, count, record], refused: [busy, no_such, cut_short] } = self;
+        writeln!(f, "choices: between two, the low end and the high end, {runs:?} in runs and {steps:?} in steps;")?;
+        writeln!(f, "3 for the choice of an idle reader {idle}, a count read {count}, a record read {record};")?;
+        write!(f, "0D refused by 6 {busy}, by 8 {no_such}, by 11 {cut_short}")
+    }
+}
+
 impl Totals {
-    /// A call that was made, and what it told.
-    fn add(&mut self, call: &Call, Told { answer, outcome }: Told, ending: u8) {
+    /// A call as it was made and as it was left, and what it told.
+    fn add(&mut self, before: &Call, call: &Call, told: Told, ending: u8) {
+        let Told { answer, outcome } = told;
+        self.choices.add(before, told, ending);
         self.calls += 1;
         self.functions[call.function as usize] += 1;
         self.endings[usize::from(ending).min(13)] += 1;
@@ -179,7 +274,7 @@ impl Totals {
     }
 }
 
-fn add_to(totals: &mut [u64; 5], more: [u64; 5]) {
+fn add_to<const N: usize>(totals: &mut [u64; N], more: [u64; N]) {
     totals.iter_mut().zip(more).for_each(|(total, more)| *total += more);
 }
 
@@ -210,7 +305,7 @@ impl Case<'_> {
         let mut theirs = self.call.clone();
         let (told, ending) = self.call.plain();
         let (their_told, their_ending) = theirs.archive();
-        self.totals.add(&self.call, told, ending);
+        self.totals.add(&before, &self.call, told, ending);
         let same = (told, ending) == (their_told, their_ending) && self.call == theirs;
         if self.verbose {
             println!("{before}  ends with {ending} {told:?}\n");
@@ -256,13 +351,19 @@ impl Case<'_> {
                 5 | 6 => self.packing(),
                 7 | 8 => self.unpacking(),
                 9..=15 => {
-                    let writes = self.random.one_in(3);
-                    let who = self.some_reader();
+                    let mut writes = self.random.one_in(3);
+                    // A read that schedules have brought far has often met a write.
+                    let who = match self.furthest_count_read() {
+                        Some(who) if self.random.one_in(2) => who,
+                        _ => self.some_reader(),
+                    };
+                    let in_turns = self.random.one_in(2);
                     for _ in 0..self.random.of(&[0, 1, 4, 20]) {
                         self.step(writes, who);
                         if !self.go_on() {
                             return;
                         }
+                        writes ^= in_turns;
                     }
                     self.step(writes, who);
                 }
@@ -315,6 +416,12 @@ impl Case<'_> {
         }
     }
 
+    /// The reader whose count read has taken the most steps.
+    fn furthest_count_read(&self) -> Option<u8> {
+        let count_reads = self.call.lent.readers.iter().zip(0..).filter(|(reader, _)| reader.kind == 1);
+        count_reads.max_by_key(|(reader, _)| reader.steps).map(|(_, who)| who)
+    }
+
     /// A step of the writer or of this reader that mostly can be carried out, with anything in fields that its kind does
     /// not ask for.
     fn step(&mut self, writes: bool, who: u8) {
@@ -329,7 +436,7 @@ impl Case<'_> {
         let Command { kind, reader, attempts, index, count } = command_of(&bytes);
         let other = wild_command(&mut self.random);
         self.call.command = Command {
-            kind,
+            kind: if self.random.one_in(50) { self.random.between(0, 14) as u8 } else { kind },
             reader: if kind >= 4 { reader } else { other.reader },
             attempts: if kind == 5 { attempts } else { other.attempts },
             index: if kind == 2 { index } else { other.index },
@@ -386,6 +493,15 @@ impl Case<'_> {
                 }
             }
         }
+        // Now and then the last command is cut short, or of a kind around 0D.
+        match self.random.below(24) {
+            0 | 1 => self.call.commands.push(self.random.of(&[1, 2, 4, 4, 5, 6, 7, 13, 13])),
+            2 => {
+                let command = [self.random.between(8, 14) as u8, self.some_reader()];
+                self.call.commands.extend(command);
+            }
+            _ => {}
+        }
         let room = self.room(&entries);
         self.call.log = self.random.bytes(room.min(400));
     }
@@ -434,10 +550,11 @@ impl Case<'_> {
         match self.random.below(60) {
             0 => vec![7, who],
             1 => vec![6, who],
+            2 if !idle => vec![self.random.of(&[4, 13]), who],
             _ if !idle => vec![6, who],
             2 => vec![5, who, self.random.byte()],
             3..=30 => vec![5, who, self.random.of(&[1, 1, 2, 3, 255])],
-            _ => vec![4, who],
+            _ => vec![self.random.of(&[4, 13]), who],
         }
     }
 
@@ -445,7 +562,7 @@ impl Case<'_> {
     fn damage(&mut self) {
         let Case { random, call, .. } = self;
         let lent = &mut call.lent;
-        match random.below(21) {
+        match random.below(22) {
             0..=2 => change_byte(random, &mut lent.page),
             3 => change_byte(random, &mut lent.buffers),
             4 | 5 => change_byte(random, &mut call.commands),
@@ -467,13 +584,14 @@ impl Case<'_> {
                 let reader = &mut lent.readers[at];
                 // The last place of b, which no reader of a folded page gathers.
                 let last = 8 + lent.bases.len().clamp(1, 8) - 1;
-                match random.below(7) {
+                match random.below(8) {
                     0 => reader.kind = wild.kind,
                     1 => reader.allowed = wild.allowed,
                     2 => reader.finished = wild.finished,
-                    3 => reader.steps = wild.steps,
-                    4 => *reader = wild,
-                    5 => reader.digits[last] = random.between(1, 3) as u8,
+                    3 => reader.choice = wild.choice,
+                    4 => reader.steps = wild.steps,
+                    5 => *reader = wild,
+                    6 => reader.digits[last] = random.between(1, 3) as u8,
                     _ => change_byte(random, &mut reader.digits),
                 }
             }
@@ -512,6 +630,11 @@ impl Case<'_> {
                 }
             }
             19 => lent.format.layout = wild_layout(random),
+            // One of the two choices or another, in a state of any kind.
+            20 => {
+                let at = random.below(lent.readers.len());
+                lent.readers[at].choice = wild_choice(random);
+            }
             // What stood on a page of the other layout, with the last byte gone or a byte more.
             _ => {
                 lent.format.layout ^= 1;
@@ -548,7 +671,7 @@ impl Case<'_> {
         call.commands = random_bytes(random, 40);
         for byte in &mut call.commands {
             if random.one_in(2) {
-                *byte %= 9;
+                *byte %= 15;
             }
         }
         call.log = random_bytes(random, 40);
@@ -652,6 +775,7 @@ fn wild_reader(random: &mut Random, lent: &Owned) -> Reader {
         kind: if random.one_in(10) { random.byte() } else { random.below(4) as u8 },
         allowed: if random.one_in(2) { 0 } else { random.byte() },
         finished: if random.one_in(2) { 0 } else { random.byte() },
+        choice: if random.one_in(2) { LOW } else { wild_choice(random) },
         steps: wild_size(random, lent),
         digits: [0; 16],
     };
@@ -661,9 +785,17 @@ fn wild_reader(random: &mut Random, lent: &Owned) -> Reader {
     reader
 }
 
+fn wild_choice(random: &mut Random) -> u8 {
+    random.of(&[LOW, HIGH, HIGH, 2, 3, 128, 255])
+}
+
 fn wild_command(random: &mut Random) -> Command {
     Command {
-        kind: if random.one_in(6) { random.byte() } else { random.below(9) as u8 },
+        kind: match random.below(6) {
+            0 => random.byte(),
+            1 => random.between(8, 14) as u8,
+            _ => random.of(&[0, 1, 2, 3, 4, 5, 6, 7, 13]),
+        },
         reader: if random.one_in(4) { random.byte() } else { random.below(17) as u8 },
         attempts: if random.one_in(2) { random.byte() } else { random.below(3) as u8 },
         index: if random.one_in(4) { random.next_u64() as u16 } else { random.below(6) as u16 },
@@ -679,7 +811,7 @@ fn change_byte(random: &mut Random, bytes: &mut [u8]) {
     let at = random.below(bytes.len());
     bytes[at] = match random.below(4) {
         0 => random.byte(),
-        1 => random.below(10) as u8,
+        1 => random.below(15) as u8,
         2 => bytes[at].wrapping_add(1),
         _ => bytes[at].wrapping_sub(1),
     };
@@ -704,8 +836,8 @@ fn reads([_, shown, accepted, gave_up, between]: [u64; 5]) -> String {
     format!("{shown} showed a count, {between} were between two, {accepted} accepted a record, {gave_up} gave up")
 }
 
-/// How many calls differed.
-fn compared(calls: u64, seed: u64, only: Option<u64>) -> u64 {
+/// Whether no call differed, and all of the choice was met where there were many.
+fn compared(calls: u64, seed: u64, only: Option<u64>) -> bool {
     let mut totals = Totals::default();
     let mut at = only.unwrap_or(0);
     while totals.calls < calls {
@@ -739,11 +871,16 @@ fn compared(calls: u64, seed: u64, only: Option<u64>) -> u64 {
     let (all, [done, _, _, invalid, _, decreases, ..]) = (totals.folded.iter().sum::<u64>(), totals.folded);
     println!("folded pages: {all} calls, of which {done} ended with 0, {invalid} with 3, {decreases} with 5;");
     println!("there {}", reads(totals.folded_reads));
+    println!("{}", totals.choices);
     for (number, count) in totals.endings.iter().enumerate().filter(|(_, &count)| count > 0) {
         println!("ended with {number}: {count}");
     }
     println!("{} differed", totals.differed);
-    totals.differed
+    if totals.calls >= MANY && !totals.choices.all() {
+        println!("not all of the choice was met");
+        return false;
+    }
+    totals.differed == 0
 }
 
 fn main() {
@@ -755,6 +892,6 @@ fn main() {
     });
     let calls = numbers.next().unwrap_or(1_000_000);
     let seed = numbers.next().unwrap_or(1);
-    let differed = compared(calls, seed, numbers.next());
-    std::process::exit(if differed == 0 { 0 } else { 1 });
+    let same = compared(calls, seed, numbers.next());
+    std::process::exit(if same { 0 } else { 1 });
 }

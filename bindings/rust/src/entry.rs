@@ -1,5 +1,5 @@
 //! What a run tells in its log, and a step at once.
-use crate::{raw, Count, Version};
+use crate::{raw, Choice, Count, Version};
 
 /// How a read ended: a count read as shown or between, a record read as accepted or given up.
 #[derive(Clone, Copy, Debug, PartialEq, Eq)]
@@ -19,7 +19,8 @@ pub enum Entry {
         reader: u8,
         attempts: u8,
     },
-    /// The copies part: the low end is below the high end, and nobody needs to have written either.
+    /// The copies part: the low end is below the high end, and nobody needs to have written either. Both are told under
+    /// either choice; [`Entry::shown`] gives the one that is shown.
     Between {
         reader: u8,
         low: Count,
@@ -30,7 +31,7 @@ pub enum Entry {
 impl Entry {
     /// What a step tells, if it ended a read.
     pub(crate) fn told(outcome: raw::Outcome) -> Option<Entry> {
-        let raw::Outcome { kind, reader, attempts, version, count, low, high } = outcome;
+        let raw::Outcome { kind, reader, attempts, choice: _, version, count, low, high } = outcome;
         match kind {
             1 => Some(Entry::Shown { reader, count: Count(count) }),
             2 => Some(Entry::Accepted { reader, attempts, version: Version(version) }),
@@ -40,13 +41,14 @@ impl Entry {
         }
     }
 
-    /// The count that a board with one number shows: that of equal copies, else the high end, which is the count that
-    /// document 01 shows where the copies part. None for a record read.
-    pub fn shown(&self) -> Option<Count> {
-        match *self {
-            Entry::Shown { count, .. } => Some(count),
-            Entry::Between { high, .. } => Some(high),
-            Entry::Accepted { .. } | Entry::GaveUp { .. } => None,
+    /// The count shown by a read that was begun with this choice: that of equal copies, else the end that is chosen
+    /// (`shown` of `crates/radix/specs/Copies.antt`). None for a record read.
+    pub fn shown(&self, choice: Choice) -> Option<Count> {
+        match (*self, choice) {
+            (Entry::Shown { count, .. }, _) => Some(count),
+            (Entry::Between { low, .. }, Choice::Low) => Some(low),
+            (Entry::Between { high, .. }, Choice::High) => Some(high),
+            (Entry::Accepted { .. } | Entry::GaveUp { .. }, _) => None,
         }
     }
 }
@@ -103,15 +105,16 @@ mod tests {
 
     #[test]
     fn each_kind_has_its_fields() {
-        let all = raw::Outcome { kind: 0, reader: 1, attempts: 2, version: 3, count: 5, low: 6, high: 7 };
+        let all = raw::Outcome { kind: 0, reader: 1, attempts: 2, choice: 1, version: 3, count: 5, low: 6, high: 7 };
         let told = |kind| Entry::told(raw::Outcome { kind, ..all });
         assert_eq!([1, 2, 3, 4].map(told), [SHOWN, ACCEPTED, GAVE_UP, BETWEEN].map(Some));
         assert_eq!([0, 5, 255].map(told), [None; 3]);
     }
 
     #[test]
-    fn one_number_is_the_count_or_the_high_end() {
-        assert_eq!([SHOWN, BETWEEN].map(|entry| entry.shown()), [Some(Count(5)), Some(Count(7))]);
-        assert_eq!([ACCEPTED, GAVE_UP].map(|entry| entry.shown()), [None; 2]);
+    fn shows_the_count_or_the_chosen_end() {
+        let all = [SHOWN, BETWEEN, ACCEPTED, GAVE_UP];
+        assert_eq!(all.map(|entry| entry.shown(Choice::Low)), [Some(Count(5)), Some(Count(6)), None, None]);
+        assert_eq!(all.map(|entry| entry.shown(Choice::High)), [Some(Count(5)), Some(Count(7)), None, None]);
     }
 }

@@ -10,8 +10,10 @@
 //! how reads ended; [`Page::step`] carries out one command and tells it at once. A [`Page`] owns its memory; [`raw`] is
 //! for callers who own it themselves.
 //!
-//! A count read that meets a write may end as [`Entry::Between`] two counts; [`Entry::shown`] is for who wants one
-//! number.
+//! A count read that meets a write may end as [`Entry::Between`] two counts. Then a read begun with [`Choice::Low`],
+//! which names no end, shows the low one, and one begun with [`Choice::High`] the high one: [`Entry::shown`] gives it.
+//! Either lies in the span from the last count fully written before the read's first step to the last one begun before
+//! its last step; the low end may be above every count fully written.
 //!
 //! A page is laid out plain or folded, as its [`Layout`] says: a folded one has a count digit fewer, and a count write or
 //! read a step fewer.
@@ -43,6 +45,18 @@ pub enum Layout {
     Plain = raw::PLAIN,
     /// The last digits of c1 and c2 are one digit, which is written once and read once.
     Folded = raw::FOLDED,
+}
+
+/// Which end a count read shows where its copies part; `as u8` is its number. Equal copies show their count under
+/// either.
+#[repr(u8)]
+#[derive(Clone, Copy, Debug, Default, PartialEq, Eq, Hash)]
+pub enum Choice {
+    /// The low end. It is what a read shows that names none.
+    #[default]
+    Low = raw::LOW,
+    /// The high end.
+    High = raw::HIGH,
 }
 
 /// The numbers of a page: its 1 to 8 count bases, q (1 to 4) version places of one base, n (1 to 256) bytes of record,
@@ -137,8 +151,15 @@ pub enum Command {
     WriteCount(Count),
     WriteRecord(u16),
     WriterStep,
-    BeginCountRead(u8),
-    BeginRecordRead { reader: u8, attempts: u8 },
+    /// By 04, which names no choice, or by 0D, which names the high end.
+    BeginCountRead {
+        reader: u8,
+        choice: Choice,
+    },
+    BeginRecordRead {
+        reader: u8,
+        attempts: u8,
+    },
     ReaderStep(u8),
     Cancel(u8),
 }
@@ -156,7 +177,7 @@ impl Command {
                 commands.extend(index.to_be_bytes());
             }
             Command::WriterStep => commands.push(3),
-            Command::BeginCountRead(reader) => commands.extend([4, reader]),
+            Command::BeginCountRead { reader, choice } => commands.extend([begin_count_read(choice), reader]),
             Command::BeginRecordRead { reader, attempts } => commands.extend([5, reader, attempts]),
             Command::ReaderStep(reader) => commands.extend([6, reader]),
             Command::Cancel(reader) => commands.extend([7, reader]),
@@ -170,11 +191,21 @@ impl Command {
             Command::WriteCount(Count(count)) => raw::Command { kind: 1, count, ..none },
             Command::WriteRecord(index) => raw::Command { kind: 2, index, ..none },
             Command::WriterStep => raw::Command { kind: 3, ..none },
-            Command::BeginCountRead(reader) => raw::Command { kind: 4, reader, ..none },
+            Command::BeginCountRead { reader, choice } => {
+                raw::Command { kind: begin_count_read(choice), reader, ..none }
+            }
             Command::BeginRecordRead { reader, attempts } => raw::Command { kind: 5, reader, attempts, ..none },
             Command::ReaderStep(reader) => raw::Command { kind: 6, reader, ..none },
             Command::Cancel(reader) => raw::Command { kind: 7, reader, ..none },
         }
+    }
+}
+
+/// The kind of the command that begins a count read with this choice.
+fn begin_count_read(choice: Choice) -> u8 {
+    match choice {
+        Choice::Low => 0x04,
+        Choice::High => 0x0d,
     }
 }
 
@@ -289,6 +320,17 @@ impl Page {
     /// The index of the lent record whose write is pending, if there is one. Until it ends, that record must not change.
     pub fn pending_record(&self) -> Option<usize> {
         (self.writer.kind == 2).then_some(self.writer.index)
+    }
+
+    /// The choice of the count read that this reader has in progress; none if it has none. How the read ends is told
+    /// without it: who needs it for [`Entry::shown`] asks before the last step.
+    pub fn choice(&self, reader: u8) -> Option<Choice> {
+        let state = self.readers.get(usize::from(reader))?;
+        match (state.kind, state.choice) {
+            (1, raw::LOW) => Some(Choice::Low),
+            (1, raw::HIGH) => Some(Choice::High),
+            _ => None,
+        }
     }
 
     pub fn format(&self) -> &Format {

@@ -7,6 +7,13 @@ pub const PLAIN: u16 = 0;
 /// Mirrors `LAGUMTAY_FOLDED`: the last digits of both copies of the count are one digit.
 pub const FOLDED: u16 = 1;
 
+/// Mirrors `LAGUMTAY_LOW`: a count read shows the low end where its copies part. It is what command 04 leaves, which
+/// names none.
+pub const LOW: u8 = 0;
+
+/// Mirrors `LAGUMTAY_HIGH`: a count read shows the high end where its copies part, as command 0D names it.
+pub const HIGH: u8 = 1;
+
 /// Mirrors `lagumtay_format`: the numbers of a page but for its count bases, which are lent beside it. The layout is
 /// [`PLAIN`] or [`FOLDED`]; any other is refused.
 #[repr(C)]
@@ -31,15 +38,17 @@ pub struct Writer {
     pub kind: u32,
 }
 
-/// Mirrors `lagumtay_reader`: a reader's state. Kind 0: idle; 1: a count read; 2: a record read. Digits gathered of c1
-/// (or v2) stand from 0 on, those of c2 (or v1) from 8 on; those not gathered, and fields that the kind does not use,
-/// are zero. The shared digit of a folded page stands with those of c1 alone.
+/// Mirrors `lagumtay_reader`: a reader's state. Kind 0: idle; 1: a count read; 2: a record read. The choice is a count
+/// read's, [`LOW`] or [`HIGH`]. Digits gathered of c1 (or v2) stand from 0 on, those of c2 (or v1) from 8 on; those not
+/// gathered, and fields that the kind does not use, are zero: so is the choice of an idle reader and of a record read.
+/// The shared digit of a folded page stands with those of c1 alone.
 #[repr(C)]
 #[derive(Clone, Copy, Debug, Default, PartialEq, Eq)]
 pub struct Reader {
     pub kind: u8,
     pub allowed: u8,
     pub finished: u8,
+    pub choice: u8,
     pub steps: usize,
     pub digits: [u8; 16],
 }
@@ -53,8 +62,8 @@ pub struct Answer {
     pub taken: usize,
 }
 
-/// Mirrors `lagumtay_command`: a command for a step, by the kinds 1 to 7 of the commands' bytes. A field that its kind
-/// does not ask for is not looked at.
+/// Mirrors `lagumtay_command`: a command for a step, by the kinds of the commands' bytes: 1 to 7 and 0x0D. A field that
+/// its kind does not ask for is not looked at.
 #[repr(C)]
 #[derive(Clone, Copy, Debug, Default, PartialEq, Eq)]
 pub struct Command {
@@ -66,14 +75,16 @@ pub struct Command {
 }
 
 /// Mirrors `lagumtay_outcome`: what a step tells, by the kinds of the log's entries. Kind 0: no read finished; 1: a
-/// count shown; 2: a record accepted; 3: a read gave up; 4: between two counts, the low end and the high end. Fields
-/// that the kind does not have are zero.
+/// count shown; 2: a record accepted; 3: a read gave up; 4: between two counts, the low end and the high end, and the
+/// choice with which the read was begun: the count shown is `if choice == HIGH { high } else { low }`. Fields that the
+/// kind does not have are zero.
 #[repr(C)]
 #[derive(Clone, Copy, Debug, Default, PartialEq, Eq)]
 pub struct Outcome {
     pub kind: u8,
     pub reader: u8,
     pub attempts: u8,
+    pub choice: u8,
     pub version: u32,
     pub count: u64,
     pub low: u64,
@@ -81,7 +92,7 @@ pub struct Outcome {
 }
 
 /// How many bytes a reader's state has when it is packed.
-pub const PACKED: usize = 27;
+pub const PACKED: usize = 28;
 
 /// How many bytes the longest entry of a log has: with so many free there always is room for the next one.
 pub const LONGEST_ENTRY: usize = 18;
@@ -220,8 +231,8 @@ impl Lent<'_> {
     #[inline] // as `run`
     pub fn step(&mut self, records: &[u8], command: &Command) -> (Outcome, u8) {
         // No outcome that a step has, so that one that is not written is seen.
-        let [count, low, high] = [u64::MAX; 3];
-        let mut outcome = Outcome { kind: 255, reader: 255, attempts: 255, version: u32::MAX, count, low, high };
+        let ([kind, reader, attempts, choice], [count, low, high]) = ([255; 4], [u64::MAX; 3]);
+        let mut outcome = Outcome { kind, reader, attempts, choice, version: u32::MAX, count, low, high };
         let ending = unsafe { call!(lagumtay_step, self, records.as_ptr(), records.len(), command, &mut outcome) };
         (outcome, ending)
     }
@@ -254,12 +265,12 @@ mod tests {
         assert_eq!([offset_of!(Writer, count), offset_of!(Writer, index), offset_of!(Writer, steps)], [0, 8, 16]);
         assert_eq!([offset_of!(Writer, version), offset_of!(Writer, kind)], [24, 28]);
         assert_eq!([offset_of!(Reader, kind), offset_of!(Reader, allowed), offset_of!(Reader, finished)], [0, 1, 2]);
-        assert_eq!([offset_of!(Reader, steps), offset_of!(Reader, digits)], [8, 16]);
+        assert_eq!([offset_of!(Reader, choice), offset_of!(Reader, steps), offset_of!(Reader, digits)], [3, 8, 16]);
         assert_eq!([offset_of!(Answer, done), offset_of!(Answer, written), offset_of!(Answer, taken)], [0, 8, 16]);
         assert_eq!([offset_of!(Command, kind), offset_of!(Command, reader), offset_of!(Command, attempts)], [0, 1, 2]);
         assert_eq!([offset_of!(Command, index), offset_of!(Command, count)], [4, 8]);
         assert_eq!([offset_of!(Outcome, kind), offset_of!(Outcome, reader), offset_of!(Outcome, attempts)], [0, 1, 2]);
-        assert_eq!([offset_of!(Outcome, version), offset_of!(Outcome, count)], [4, 8]);
+        assert_eq!([offset_of!(Outcome, choice), offset_of!(Outcome, version), offset_of!(Outcome, count)], [3, 4, 8]);
         assert_eq!([offset_of!(Outcome, low), offset_of!(Outcome, high)], [16, 24]);
         assert_eq!([size_of::<Format>(), size_of::<Writer>(), size_of::<Reader>()], [32; 3]);
         assert_eq!([size_of::<Answer>(), size_of::<Command>(), size_of::<Outcome>()], [24, 16, 32]);
@@ -283,7 +294,7 @@ mod tests {
             let mut memory = Memory {
                 page: [9; 15],
                 writer: Writer { count: 9, index: 9, steps: 9, version: 9, kind: 9 },
-                readers: [Reader { kind: 9, allowed: 9, finished: 9, steps: 9, digits: [9; 16] }; 3],
+                readers: [Reader { kind: 9, allowed: 9, finished: 9, choice: 9, steps: 9, digits: [9; 16] }; 3],
                 buffers: [9; 15],
                 log: [0; LONGEST_ENTRY],
             };
@@ -329,38 +340,115 @@ mod tests {
         assert_eq!(memory.run(&[2, 0, 2, 3, 3, 3]), (4, 0, 0));
         assert_eq!(memory.writer, Writer { count: 0, index: 2, steps: 3, version: 1, kind: 2 });
 
-        // Reader 1 is about to end a count read. Reader 2 is in the second of three attempts: the first met the half
-        // written record.
+        // Readers 1 and 0 are about to end count reads of either choice. Reader 2 is in the second of three attempts:
+        // the first met the half written record.
         assert_eq!(memory.run(&[4, 1, 6, 1, 6, 1, 6, 1, 6, 1, 6, 1]), (6, 0, 0));
+        assert_eq!(memory.run(&[13, 0, 6, 0, 6, 0, 6, 0, 6, 0, 6, 0]), (6, 0, 0));
         let digits = [4, 1, 3, 0, 0, 0, 0, 0, 0, 1, 3, 0, 0, 0, 0, 0];
-        assert_eq!(memory.readers[1], Reader { kind: 1, allowed: 0, finished: 0, steps: 5, digits });
+        let gathered = |choice| Reader { kind: 1, allowed: 0, finished: 0, choice, steps: 5, digits };
+        assert_eq!(memory.readers[..2], [gathered(HIGH), gathered(LOW)]);
         assert_eq!(memory.run(&[5, 2, 3]), (1, 0, 0));
         assert_eq!(memory.run(&[6, 2].repeat(11)), (11, 0, 0));
-        assert_eq!(memory.readers[2], Reader { kind: 2, allowed: 3, finished: 1, steps: 2, digits: [0; 16] });
+        let retried = Reader { kind: 2, allowed: 3, finished: 1, choice: 0, steps: 2, digits: [0; 16] };
+        assert_eq!(memory.readers[2], retried);
 
         assert_eq!(memory.run(&[6, 1, 6, 1]), (1, 10, 7));
         assert_eq!(memory.log[..10], [1, 1, 0, 0, 0, 0, 0, 0, 1, 44]);
+        assert_eq!(memory.run(&[6, 0, 6, 0]), (1, 10, 7));
+        assert_eq!(memory.log[..10], [1, 0, 0, 0, 0, 0, 0, 0, 1, 44]);
+        assert_eq!(memory.readers, [Reader::default(), Reader::default(), retried]);
     }
 
-    /// With a's 1, 3, 1 gathered, 4, 1, 3 is written; then all but the last digit of b is gathered.
-    fn about_to_part() -> Memory {
+    /// With a's 1, 3, 1 gathered by a read of this kind, 4, 1, 3 is written; then all but the last digit of b is
+    /// gathered.
+    fn about_to_part(begin: u8) -> Memory {
         let mut memory = Memory::opened();
-        assert_eq!(memory.run(&[4, 1, 6, 1, 6, 1, 6, 1]), (4, 0, 0));
+        assert_eq!(memory.run(&[begin, 1, 6, 1, 6, 1, 6, 1]), (4, 0, 0));
         assert_eq!(memory.run(&[1, 0, 0, 0, 0, 0, 0, 1, 44, 3, 3, 3, 3, 3, 3]), (7, 0, 0));
         assert_eq!(memory.run(&[6, 1, 6, 1]), (2, 0, 0));
         memory
     }
 
-    /// The low end is 1, 7, 8 in bases 7, 8, 9, the high end 4, 0, 0.
+    /// The low end is 1, 7, 8 in bases 7, 8, 9, the high end 4, 0, 0. A log has both under either choice, a step tells
+    /// the choice too.
     #[test]
     fn the_archive_tells_both_ends() {
-        let mut ran = about_to_part();
-        assert_eq!(ran.run(&[6, 1]), (1, LONGEST_ENTRY, 0));
-        assert_eq!(ran.log, [4, 1, 0, 0, 0, 0, 0, 0, 0, 143, 0, 0, 0, 0, 0, 0, 1, 32]);
-        let mut stepped = about_to_part();
-        let told = Outcome { kind: 4, reader: 1, low: 143, high: 288, ..Outcome::default() };
-        assert_eq!(stepped.step(Command { kind: 6, reader: 1, ..Command::default() }), (told, 0));
-        assert_eq!([stepped.readers, ran.readers], [[Reader::default(); 3]; 2]);
+        for (begin, choice) in [(4, LOW), (13, HIGH)] {
+            let mut ran = about_to_part(begin);
+            assert_eq!(ran.readers[1].choice, choice);
+            assert_eq!(ran.run(&[6, 1]), (1, LONGEST_ENTRY, 0));
+            assert_eq!(ran.log, [4, 1, 0, 0, 0, 0, 0, 0, 0, 143, 0, 0, 0, 0, 0, 0, 1, 32]);
+            let mut stepped = about_to_part(begin);
+            let told = Outcome { kind: 4, reader: 1, choice, low: 143, high: 288, ..Outcome::default() };
+            assert_eq!(stepped.step(Command { kind: 6, reader: 1, ..Command::default() }), (told, 0));
+            assert_eq!([stepped.readers, ran.readers], [[Reader::default(); 3]; 2]);
+        }
+    }
+
+    /// A reader in the middle of a read that these commands began and, beside it, one that is idle.
+    fn reading(commands: &[u8]) -> Memory {
+        let mut memory = Memory::opened();
+        assert_eq!(memory.run(&[commands, &[6, 1, 6, 1]].concat()), (3, 0, 0));
+        memory
+    }
+
+    /// A count read has one of two choices; an idle reader and a record read have none.
+    #[test]
+    fn the_archive_reads_the_choice() {
+        for (begin, right) in [(&[4, 1][..], &[LOW, HIGH][..]), (&[13, 1], &[LOW, HIGH]), (&[5, 1, 2], &[LOW])] {
+            for choice in 0..=255 {
+                let mut memory = reading(begin);
+                memory.readers[1].choice = choice;
+                let before = memory.readers;
+                let why = if right.contains(&choice) { 0 } else { 3 };
+                assert_eq!(memory.run(&[]), (0, 0, why), "{begin:?}, {choice}");
+                assert_eq!(memory.readers, before);
+                assert_eq!(memory.lend().0.cancel(RECORDS, 1), why);
+                memory = reading(begin);
+                memory.readers[0].choice = choice;
+                let why = if choice == LOW { 0 } else { 3 };
+                assert_eq!(memory.step(Command { kind: 6, reader: 1, ..Command::default() }).1, why);
+            }
+        }
+    }
+
+    /// What ends or drops a read leaves no choice behind.
+    #[test]
+    fn the_archive_clears_the_choice() {
+        let mut memory = reading(&[13, 1]);
+        assert_eq!(memory.readers[1].choice, HIGH);
+        assert_eq!(memory.lend().0.cancel(RECORDS, 1), 0);
+        assert_eq!(memory.readers, [Reader::default(); 3]);
+        assert_eq!(memory.run(&[13, 1, 7, 1]), (2, 0, 0));
+        assert_eq!(memory.readers, [Reader::default(); 3]);
+        assert_eq!(memory.run(&[13, 1, 6, 1, 6, 1, 6, 1, 6, 1, 6, 1, 6, 1]), (7, 10, 0));
+        assert_eq!(memory.readers, [Reader::default(); 3]);
+        assert_eq!(memory.run(&[13, 1, 7, 1, 4, 1]), (3, 0, 0));
+        assert_eq!(memory.readers[1], Reader { kind: 1, ..Reader::default() });
+    }
+
+    /// 0D is checked as 04 is, and the kinds around it are unknown.
+    #[test]
+    fn the_archive_refuses_0d_as_04() {
+        for begin in [4, 13] {
+            let mut memory = reading(&[begin, 1]);
+            let before = memory.readers;
+            assert_eq!(memory.run(&[begin, 1]), (0, 0, 6));
+            assert_eq!(memory.run(&[begin, 3]), (0, 0, 8));
+            assert_eq!(memory.run(&[begin]), (0, 0, 11));
+            for (reader, why) in [(1, 6), (3, 8), (255, 8)] {
+                let command = Command { kind: begin, reader, ..Command::default() };
+                assert_eq!(memory.step(command), (Outcome::default(), why));
+            }
+            assert_eq!(memory.readers, before);
+            assert_eq!(reading(&[5, 1, 1]).run(&[begin, 1]), (0, 0, 6));
+        }
+        let mut memory = Memory::opened();
+        for kind in (8..=12).chain(14..=255).chain([0]) {
+            assert_eq!(memory.run(&[kind, 0]), (0, 0, 11));
+            assert_eq!(memory.step(Command { kind, ..Command::default() }), (Outcome::default(), 11));
+        }
+        assert_eq!(memory.readers, [Reader::default(); 3]);
     }
 
     /// The layout is seen where it stands, and both its bytes are.
@@ -377,7 +465,7 @@ mod tests {
     /// A value that no steps could leave is seen in each field.
     #[test]
     fn the_archive_reads_these_fields() {
-        let damages: [fn(&mut Memory); 10] = [
+        let damages: [fn(&mut Memory); 11] = [
             |memory| memory.writer.count = 1,
             |memory| memory.writer.index = 1,
             |memory| memory.writer.steps = 1,
@@ -386,6 +474,7 @@ mod tests {
             |memory| memory.readers[2].kind = 3,
             |memory| memory.readers[2].allowed = 1,
             |memory| memory.readers[2].finished = 1,
+            |memory| memory.readers[2].choice = 1,
             |memory| memory.readers[2].steps = 1,
             |memory| memory.readers[2].digits[15] = 1,
         ];
@@ -430,6 +519,13 @@ mod tests {
             assert_eq!(step(&mut memory, 1), nothing);
         }
         assert_eq!(step(&mut memory, 1), (Outcome { kind: 1, reader: 1, count: 300, ..Outcome::default() }, 0));
+        // Equal copies do not tell the choice.
+        assert_eq!(memory.step(Command { kind: 13, reader: 0, ..other }), nothing);
+        assert_eq!(memory.readers[0], Reader { kind: 1, choice: HIGH, ..Reader::default() });
+        for _ in 0..5 {
+            assert_eq!(step(&mut memory, 0), nothing);
+        }
+        assert_eq!(step(&mut memory, 0), (Outcome { kind: 1, reader: 0, count: 300, ..Outcome::default() }, 0));
 
         assert_eq!(memory.step(Command { kind: 5, reader: 2, attempts: 3, ..other }), nothing);
         assert_eq!(memory.readers[2], Reader { kind: 2, allowed: 3, ..Reader::default() });
@@ -486,12 +582,12 @@ mod tests {
     #[test]
     fn packs_all_fields() {
         let digits = std::array::from_fn(|i| 20 + i as u8);
-        let first = Reader { kind: 1, allowed: 2, finished: 3, steps: 0x0405_0607_0809_0a0b, digits };
+        let first = Reader { kind: 1, allowed: 2, finished: 3, choice: 4, steps: 0x0506_0708_090a_0b0c, digits };
         let readers = [first, Reader { kind: 9, ..first }];
         let mut bytes = [0xee; 2 * PACKED];
         assert_eq!(pack(&readers, &mut bytes), 0);
-        assert_eq!(bytes[..11], [1, 2, 3, 4, 5, 6, 7, 8, 9, 10, 11]);
-        assert_eq!(bytes[11..PACKED], digits);
+        assert_eq!(bytes[..12], [1, 2, 3, 4, 5, 6, 7, 8, 9, 10, 11, 12]);
+        assert_eq!(bytes[12..PACKED], digits);
         assert_eq!((bytes[PACKED], &bytes[PACKED + 1..]), (9, &bytes[1..PACKED]));
         let mut back = [Reader::default(); 2];
         assert_eq!(unpack(&mut back, &bytes), 0);

@@ -4,8 +4,9 @@ use std::fmt::Write;
 use std::fs;
 use std::path::Path;
 
+use lagumtay::raw::PACKED;
 use lagumtay::Command::*;
-use lagumtay::{commands, Command, Count, Entry, Format, Layout, Page, Ran, Refusal, Version};
+use lagumtay::{commands, Choice, Command, Count, Entry, Format, Layout, Page, Ran, Refusal, Version};
 
 fn format(bases: &[u16]) -> Format {
     Format { bases: bases.to_vec(), q: 1, base: 10, layout: Layout::Folded, n: 2, readers: 2 }
@@ -27,6 +28,11 @@ fn steps(command: Command, times: usize) -> Vec<Command> {
     vec![command; times]
 }
 
+/// A count read without a choice.
+fn begin(reader: u8) -> Command {
+    BeginCountRead { reader, choice: Choice::Low }
+}
+
 fn write(page: &mut Page, count: u64) {
     let all = page.format().count_steps();
     assert_eq!(go(page, &[vec![WriteCount(Count(count))], steps(WriterStep, all)].concat()), []);
@@ -34,7 +40,7 @@ fn write(page: &mut Page, count: u64) {
 
 fn read(page: &mut Page) -> Vec<Entry> {
     let all = page.format().count_steps();
-    go(page, &[vec![BeginCountRead(0)], steps(ReaderStep(0), all)].concat())
+    go(page, &[vec![begin(0)], steps(ReaderStep(0), all)].concat())
 }
 
 fn shown(count: u64) -> Vec<Entry> {
@@ -82,12 +88,12 @@ fn moves_one_digit_a_step() {
         assert_eq!(page.bytes()[3..], [0, b'a', b'a', 0]);
     }
     assert_eq!(page.step(b"", WriterStep), Err(Refusal::NothingPending));
-    go(&mut page, &[BeginCountRead(0)]);
+    go(&mut page, &[begin(0)]);
     for (steps, a, b) in [(1, [12, 0], [0, 0]), (2, [12, 4], [0, 0])] {
         assert_eq!(page.step(b"", ReaderStep(0)), Ok(None));
         let saved = page.save();
-        // The bytes of a state: three, then eight of steps, then sixteen digits.
-        assert_eq!((saved[10], &saved[11..13], &saved[19..21]), (steps, &a[..], &b[..]));
+        // The bytes of a state: four, then eight of steps, then sixteen digits.
+        assert_eq!((saved[11], &saved[12..14], &saved[20..22]), (steps, &a[..], &b[..]));
     }
     assert_eq!(page.step(b"", ReaderStep(0)), Ok(Some(shown(12 * 60 + 4)[0])));
     assert_eq!(page.step(b"", ReaderStep(0)), Err(Refusal::NothingPending));
@@ -98,8 +104,8 @@ fn one_place_is_never_between() {
     let mut page = opened(&[10], 4);
     assert_eq!(read(&mut page), shown(4));
     // Announced, and not yet written; then written.
-    assert_eq!(go(&mut page, &[BeginCountRead(0), WriteCount(Count(7)), ReaderStep(0)]), shown(4));
-    assert_eq!(go(&mut page, &[BeginCountRead(0), WriterStep, ReaderStep(0)]), shown(7));
+    assert_eq!(go(&mut page, &[begin(0), WriteCount(Count(7)), ReaderStep(0)]), shown(4));
+    assert_eq!(go(&mut page, &[begin(0), WriterStep, ReaderStep(0)]), shown(7));
     assert_eq!(page.step(b"", WriteCount(Count(6))), Err(Refusal::CountDecreases));
     write(&mut page, 7);
     assert_eq!(read(&mut page), shown(7));
@@ -108,7 +114,7 @@ fn one_place_is_never_between() {
 /// A read that took this many steps meets a whole write.
 fn met(bases: &[u16], opening: u64, written: u64, taken: usize) -> Vec<Entry> {
     let mut page = opened(bases, opening);
-    go(&mut page, &[vec![BeginCountRead(0)], steps(ReaderStep(0), taken)].concat());
+    go(&mut page, &[vec![begin(0)], steps(ReaderStep(0), taken)].concat());
     write(&mut page, written);
     let left = page.format().count_steps() - taken;
     go(&mut page, &steps(ReaderStep(0), left))
@@ -127,6 +133,24 @@ fn two_places_part_in_the_first_alone() {
     go(&mut page, &[WriteCount(Count(12 * 60 + 4)), WriterStep]);
     assert_eq!(read(&mut page), between(719, 720));
     assert_eq!(page.bytes()[..3], [11, 57, 12]);
+}
+
+/// 11:57 half turned into 12:04: both choices meet the same copies, and show another end of them.
+#[test]
+fn shows_the_chosen_end() {
+    let mut page = opened(&[24, 60], 11 * 60 + 57);
+    for (choice, shown) in [(Choice::Low, 719), (Choice::High, 720)] {
+        go(&mut page, &[vec![BeginCountRead { reader: 0, choice }], steps(ReaderStep(0), 2)].concat());
+        assert_eq!(page.choice(0), Some(choice));
+        if choice == Choice::Low {
+            go(&mut page, &[WriteCount(Count(12 * 60 + 4)), WriterStep]);
+        }
+        let entry = between(719, 720)[0];
+        assert_eq!(page.clone().step(b"", ReaderStep(0)), Ok(Some(entry)));
+        assert_eq!(go(&mut page, &[ReaderStep(0)]), [entry]);
+        assert_eq!(entry.shown(choice), Some(Count(shown)));
+        assert_eq!(page.choice(0), None);
+    }
 }
 
 #[test]
@@ -155,14 +179,14 @@ fn a_shared_digit_tells_what_goes_back() {
     }
 }
 
-/// A state with a digit at the last place of b, or with all steps taken.
+/// A state with a digit at the last place of b, or with all steps taken; and one with a third choice, which none has.
 #[test]
 fn refuses_states_of_a_plain_page() {
     for m in [1, 2, 8] {
         let mut page = opened(&vec![10; m], 5);
-        go(&mut page, &[vec![BeginCountRead(1)], steps(ReaderStep(1), 2 * m - 2)].concat());
+        go(&mut page, &[vec![begin(1)], steps(ReaderStep(1), 2 * m - 2)].concat());
         let saved = page.save();
-        for (at, byte) in [(27 + 11 + 8 + m - 1, 1), (27 + 10, 2 * m as u8 - 1)] {
+        for (at, byte) in [(PACKED + 12 + 8 + m - 1, 1), (PACKED + 11, 2 * m as u8 - 1), (PACKED + 3, 2)] {
             let mut wrong = saved.clone();
             wrong[at] = byte;
             assert_eq!(page.restore(&wrong), Ok(()));
@@ -218,7 +242,12 @@ fn opened_from(mut input: &[u8]) -> (Result<Page, Refusal>, &[u8], &[u8]) {
 
 /// The first command of some bytes, which may be none or cut short.
 fn first_command(bytes: &[u8]) -> &[u8] {
-    let length = [1, 9, 3, 1, 2, 3, 2, 2].get(usize::from(bytes[0])).copied().unwrap_or(1);
+    let length = match bytes[0] {
+        1 => 9,
+        2 | 5 => 3,
+        4 | 6 | 7 | 13 => 2,
+        _ => 1,
+    };
     &bytes[..bytes.len().min(length)]
 }
 

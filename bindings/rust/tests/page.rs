@@ -1,6 +1,6 @@
 //! The bindings against document 01: its printed run, its trap, and the refusals that a caller can meet.
 use lagumtay::Command::*;
-use lagumtay::{commands, Command, Count, Entries, Entry, Format, Layout, Page, Refusal, Version};
+use lagumtay::{commands, raw, Choice, Command, Count, Entries, Entry, Format, Layout, Page, Refusal, Version};
 
 fn format(bases: &[u16]) -> Format {
     Format { bases: bases.to_vec(), q: 1, base: 10, layout: Layout::Plain, n: 2, readers: 2 }
@@ -27,6 +27,16 @@ fn go(page: &mut Page, list: &[Command]) -> Vec<Entry> {
 
 fn steps(command: Command, times: usize) -> Vec<Command> {
     vec![command; times]
+}
+
+/// A count read without a choice.
+fn begin(reader: u8) -> Command {
+    BeginCountRead { reader, choice: Choice::default() }
+}
+
+/// A count read that names the high end.
+fn begin_high(reader: u8) -> Command {
+    BeginCountRead { reader, choice: Choice::High }
 }
 
 #[test]
@@ -59,14 +69,14 @@ fn refuses_openings() {
 
 /// The printed run of document 01.
 fn schedule() -> Vec<Command> {
-    let begin = [BeginRecordRead { reader: 0, attempts: 2 }, ReaderStep(0), ReaderStep(0), WriteRecord(0)];
+    let first = [BeginRecordRead { reader: 0, attempts: 2 }, ReaderStep(0), ReaderStep(0), WriteRecord(0)];
     [
-        &begin[..],
+        &first[..],
         &steps(WriterStep, 3),
         &steps(ReaderStep(0), 2),
         &[WriterStep],
         &steps(ReaderStep(0), 4),
-        &[WriteCount(Count(7)), BeginCountRead(0), ReaderStep(0), WriterStep, WriterStep, ReaderStep(0)],
+        &[WriteCount(Count(7)), begin(0), ReaderStep(0), WriterStep, WriterStep, ReaderStep(0)],
     ]
     .concat()
 }
@@ -105,14 +115,17 @@ fn steps_through_the_schedule_of_document_01() {
 #[test]
 fn a_refused_step_changes_nothing() {
     let mut page = opened(&[10], 4);
-    go(&mut page, &[BeginCountRead(1)]);
+    go(&mut page, &[begin(1)]);
     let before = page.clone();
     for (command, why) in [
         (WriteCount(Count(10)), Refusal::CountTooLarge),
         (WriteCount(Count(3)), Refusal::CountDecreases),
         (WriterStep, Refusal::NothingPending),
         (ReaderStep(0), Refusal::NothingPending),
-        (BeginCountRead(1), Refusal::Busy),
+        (begin(1), Refusal::Busy),
+        (begin_high(1), Refusal::Busy),
+        (begin(2), Refusal::NoSuch),
+        (begin_high(2), Refusal::NoSuch),
         (ReaderStep(255), Refusal::NoSuch),
         (WriteRecord(2), Refusal::NoSuch),
         (BeginRecordRead { reader: 0, attempts: 0 }, Refusal::NoSuch),
@@ -139,68 +152,147 @@ fn a_step_tells_that_a_read_gave_up() {
 #[test]
 fn restores_what_was_saved() {
     let mut page = opened(&[10], 4);
-    go(&mut page, &[BeginCountRead(0), ReaderStep(0), BeginRecordRead { reader: 1, attempts: 3 }]);
+    go(&mut page, &[begin_high(0), ReaderStep(0), BeginRecordRead { reader: 1, attempts: 3 }]);
     let saved = page.save();
-    assert_eq!(saved.len(), 54);
-    assert_eq!(saved[..12], [1, 0, 0, 0, 0, 0, 0, 0, 0, 0, 1, 4]);
-    assert_eq!(saved[27..38], [2, 3, 0, 0, 0, 0, 0, 0, 0, 0, 0]);
+    assert_eq!((saved.len(), raw::PACKED), (56, 28));
+    assert_eq!(saved[..13], [1, 0, 0, 1, 0, 0, 0, 0, 0, 0, 0, 1, 4]);
+    assert_eq!(saved[28..40], [2, 3, 0, 0, 0, 0, 0, 0, 0, 0, 0, 0]);
     let before = page.clone();
-    for length in [0, 27, 53] {
+    for length in [0, 27, 28, 54, 55] {
         assert_eq!(page.restore(&saved[..length]), Err(Refusal::WrongLength));
     }
     assert_eq!(page, before);
     go(&mut page, &[Cancel(0), Cancel(1)]);
     assert_eq!(page.restore(&saved), Ok(()));
     assert_eq!(page, before);
+    assert_eq!(page.choice(0), Some(Choice::High));
     assert_eq!(page.step(b"", ReaderStep(0)), Ok(Some(Entry::Shown { reader: 0, count: Count(4) })));
     // Any bytes are taken; what they say is judged by the next call.
-    assert_eq!(page.restore(&[9; 54]), Ok(()));
-    assert_eq!(page.save(), [9; 54]);
+    assert_eq!(page.restore(&[9; 56]), Ok(()));
+    assert_eq!(page.save(), [9; 56]);
     assert_eq!(page.step(b"", ReaderStep(0)), Err(Refusal::InvalidState));
 }
 
 #[test]
 fn a_later_read_may_show_less_than_one_that_it_overlaps() {
-    let mut page = opened(&[10, 10, 10], 99);
-    go(&mut page, &[&[BeginCountRead(0)][..], &steps(ReaderStep(0), 3)].concat());
-    go(&mut page, &[&[WriteCount(Count(150))][..], &steps(WriterStep, 6)].concat());
-    let second = go(&mut page, &[&[BeginCountRead(1)][..], &steps(ReaderStep(1), 6)].concat());
-    let first = go(&mut page, &steps(ReaderStep(0), 3));
-    assert_eq!(second, [Entry::Shown { reader: 1, count: Count(150) }]);
-    assert_eq!(first, [Entry::Between { reader: 0, low: Count(99), high: Count(100) }]);
-    assert_eq!((first[0].shown(), second[0].shown()), (Some(Count(100)), Some(Count(150))));
+    for (choice, less) in [(Choice::Low, 99), (Choice::High, 100)] {
+        let mut page = opened(&[10, 10, 10], 99);
+        go(&mut page, &[&[BeginCountRead { reader: 0, choice }][..], &steps(ReaderStep(0), 3)].concat());
+        go(&mut page, &[&[WriteCount(Count(150))][..], &steps(WriterStep, 6)].concat());
+        let second = go(&mut page, &[&[BeginCountRead { reader: 1, choice }][..], &steps(ReaderStep(1), 6)].concat());
+        let first = go(&mut page, &steps(ReaderStep(0), 3));
+        assert_eq!(second, [Entry::Shown { reader: 1, count: Count(150) }]);
+        assert_eq!(first, [Entry::Between { reader: 0, low: Count(99), high: Count(100) }]);
+        assert_eq!((first[0].shown(choice), second[0].shown(choice)), (Some(Count(less)), Some(Count(150))));
+    }
+}
+
+/// The low end is no count fully written, and above them all: 05 half turned into 30 shows 09.
+#[test]
+fn the_low_end_may_be_above_every_count_fully_written() {
+    for (choice, shown) in [(Choice::Low, 9), (Choice::High, 30)] {
+        let mut page = opened(&[10, 10], 5);
+        go(&mut page, &[&[WriteCount(Count(30))][..], &steps(WriterStep, 2)].concat());
+        let read = go(&mut page, &[&[BeginCountRead { reader: 0, choice }][..], &steps(ReaderStep(0), 4)].concat());
+        assert_eq!(read, [Entry::Between { reader: 0, low: Count(9), high: Count(30) }]);
+        assert_eq!(read[0].shown(choice), Some(Count(shown)));
+    }
 }
 
 /// One step before the end of a count read: it gathered the first copy, 11:57, before this count was written.
-fn about_to_end(written: u64) -> Page {
+fn about_to_end(choice: Choice, written: u64) -> Page {
     let mut page = opened(&[24, 60], 11 * 60 + 57);
-    go(&mut page, &[&[BeginCountRead(1)][..], &steps(ReaderStep(1), 2)].concat());
+    go(&mut page, &[&[BeginCountRead { reader: 1, choice }][..], &steps(ReaderStep(1), 2)].concat());
     go(&mut page, &[&[WriteCount(Count(written))][..], &steps(WriterStep, 4), &[ReaderStep(1)]].concat());
+    assert_eq!(page.choice(1), Some(choice));
     page
 }
 
 #[test]
 fn equal_copies_show_a_count_though_a_write_was_met() {
-    let mut page = about_to_end(11 * 60 + 57);
-    let shown = Entry::Shown { reader: 1, count: Count(11 * 60 + 57) };
-    assert_eq!(page.clone().step(b"", ReaderStep(1)), Ok(Some(shown)));
-    assert_eq!(go(&mut page, &[ReaderStep(1)]), [shown]);
+    for choice in [Choice::Low, Choice::High] {
+        let mut page = about_to_end(choice, 11 * 60 + 57);
+        let shown = Entry::Shown { reader: 1, count: Count(11 * 60 + 57) };
+        assert_eq!(page.clone().step(b"", ReaderStep(1)), Ok(Some(shown)));
+        assert_eq!(go(&mut page, &[ReaderStep(1)]), [shown]);
+        assert_eq!(shown.shown(choice), Some(Count(11 * 60 + 57)));
+        assert_eq!(page.choice(1), None);
+    }
 }
 
-/// The low end has the largest digits of each place's own base.
+/// The low end has the largest digits of each place's own base. Both are told under either choice, which decides the
+/// count shown.
 #[test]
 fn copies_that_part_give_both_ends() {
     for (written, low, high) in [(12 * 60 + 4, 11 * 60 + 59, 12 * 60), (11 * 60 + 58, 11 * 60 + 57, 11 * 60 + 58)] {
-        let mut page = about_to_end(written);
-        let between = Entry::Between { reader: 1, low: Count(low), high: Count(high) };
-        assert_eq!(page.clone().step(b"", ReaderStep(1)), Ok(Some(between)));
-        assert_eq!(go(&mut page, &[ReaderStep(1)]), [between]);
+        for (choice, shown) in [(Choice::Low, low), (Choice::High, high)] {
+            let mut page = about_to_end(choice, written);
+            let between = Entry::Between { reader: 1, low: Count(low), high: Count(high) };
+            assert_eq!(page.clone().step(b"", ReaderStep(1)), Ok(Some(between)));
+            assert_eq!(go(&mut page, &[ReaderStep(1)]), [between]);
+            assert_eq!(between.shown(choice), Some(Count(shown)));
+            assert_eq!(page.choice(1), None);
+        }
+    }
+}
+
+#[test]
+fn choices_are_commands_of_their_own() {
+    assert_eq!(commands([begin(3), begin_high(3)]), [0x04, 3, 0x0d, 3]);
+    assert_eq!([Choice::Low as u8, Choice::High as u8], [raw::LOW, raw::HIGH]);
+    assert_eq!((raw::LOW, raw::HIGH, Choice::default()), (0, 1, Choice::Low));
+}
+
+/// A choice is there while a count read is, and no longer.
+#[test]
+fn a_page_keeps_the_choice() {
+    let mut page = opened(&[10], 4);
+    let choices = |page: &Page| [0, 1, 2].map(|reader| page.choice(reader));
+    assert_eq!(choices(&page), [None; 3]);
+    go(&mut page, &[begin_high(0), begin(1), ReaderStep(0), ReaderStep(1)]);
+    assert_eq!(choices(&page), [Some(Choice::High), Some(Choice::Low), None]);
+    go(&mut page, &[Cancel(0), ReaderStep(1)]);
+    assert_eq!(page, opened(&[10], 4));
+    go(&mut page, &[begin(0), begin_high(1)]);
+    assert_eq!(choices(&page), [Some(Choice::Low), Some(Choice::High), None]);
+    assert_eq!(page.cancel(b"", 1), Ok(()));
+    go(&mut page, &[BeginRecordRead { reader: 1, attempts: 1 }]);
+    assert_eq!(choices(&page), [Some(Choice::Low), None, None]);
+}
+
+/// The fourth byte of a saved state is its choice: a count read has one of two, an idle reader and a record read none.
+#[test]
+fn refuses_strange_choices() {
+    for (list, right) in [
+        (&[][..], &[0][..]),
+        (&[begin(1)], &[0, 1]),
+        (&[begin_high(1), ReaderStep(1)], &[0, 1]),
+        (&[BeginRecordRead { reader: 1, attempts: 2 }, ReaderStep(1)], &[0]),
+    ] {
+        let mut page = opened(&[10], 4);
+        go(&mut page, list);
+        for choice in 0..=255 {
+            let mut saved = page.save();
+            saved[raw::PACKED + 3] = choice;
+            assert_eq!(page.restore(&saved), Ok(()));
+            let before = page.clone();
+            let ran = page.run(b"", &[], &mut []).ending;
+            if right.contains(&choice) {
+                assert_eq!(ran, Ok(()), "{list:?}, {choice}");
+            } else {
+                assert_eq!(ran, Err(Refusal::InvalidState), "{list:?}, {choice}");
+                assert_eq!(page.step(b"", begin(0)), Err(Refusal::InvalidState));
+                assert_eq!(page.cancel(b"", 1), Err(Refusal::InvalidState));
+                assert_eq!(page.choice(1), None);
+            }
+            assert_eq!(page, before);
+        }
     }
 }
 
 #[test]
 fn a_log_without_room_for_both_ends_is_refused() {
-    let mut page = about_to_end(12 * 60 + 4);
+    let mut page = about_to_end(Choice::High, 12 * 60 + 4);
     let before = page.clone();
     for room in 0..18 {
         let mut log = vec![0xee; room];
@@ -224,15 +316,22 @@ fn ends_with_the_first_refused_command() {
         (WriteCount(Count(3)), Refusal::CountDecreases),
         (WriterStep, Refusal::NothingPending),
         (ReaderStep(1), Refusal::NothingPending),
+        (begin(2), Refusal::NoSuch),
+        (begin_high(2), Refusal::NoSuch),
         (ReaderStep(2), Refusal::NoSuch),
         (WriteRecord(2), Refusal::NoSuch),
         (BeginRecordRead { reader: 1, attempts: 0 }, Refusal::NoSuch),
     ] {
-        let list = [BeginCountRead(0), Cancel(0), command, WriterStep];
+        let list = [begin(0), Cancel(0), command, WriterStep];
         assert_eq!(run(&mut page, &list), (2, vec![], Err(why)));
     }
-    assert_eq!(run(&mut page, &[BeginCountRead(0), BeginCountRead(0)]).2, Err(Refusal::Busy));
-    assert_eq!(page.run(b"", &[8], &mut []).ending, Err(Refusal::UnknownCommand));
+    assert_eq!(run(&mut page, &[begin(0), begin(0)]), (1, vec![], Err(Refusal::Busy)));
+    assert_eq!(run(&mut page, &[begin_high(1), begin_high(1)]), (1, vec![], Err(Refusal::Busy)));
+    assert_eq!(run(&mut page, &[begin_high(0)]), (0, vec![], Err(Refusal::Busy)));
+    assert_eq!(run(&mut page, &[begin(1)]), (0, vec![], Err(Refusal::Busy)));
+    for unknown in [&[0][..], &[8, 0], &[9], &[10, 0], &[11], &[12, 0], &[14, 0], &[255], &[4], &[13]] {
+        assert_eq!(page.run(b"", unknown, &mut []).ending, Err(Refusal::UnknownCommand), "{unknown:?}");
+    }
     assert_eq!(page.run(b"bbc", &[], &mut []).ending, Err(Refusal::WrongLength));
     assert_eq!(page.run(b"", &[6, 0, 6, 0], &mut [0; 9]).ending, Err(Refusal::LogFull));
 }
