@@ -11,7 +11,7 @@ import sys
 from pathlib import Path
 
 import inputs
-from inputs import WRITER, cancel, header, read_count, read_record, step, write_count, write_record
+from inputs import WRITER, cancel, header, read_count, read_count_high, read_record, step, write_count, write_record
 from runlist import FOLDED, Refusal, opened, run
 
 FILE = Path(__file__).resolve().parent / "data" / "folded.txt"
@@ -27,9 +27,9 @@ LAST = 2**64 - 1
 BIT = header([10, 10], 1, 2, 1, 1, 5, b"a", [b"b"])  # versions 0 and 1 only; a record write or attempt takes 3 steps
 
 
-def met(head, steps, taken, count, written, reader=0):
+def met(head, steps, taken, count, written, reader=0, begin=read_count):
     """A read of so many steps takes some; then so many steps of a write are taken; then the read goes on to its end."""
-    return (head + read_count(reader) + step(reader) * taken + write_count(count) + WRITER * written
+    return (head + begin(reader) + step(reader) * taken + write_count(count) + WRITER * written
             + step(reader) * (steps - taken))
 
 
@@ -71,9 +71,31 @@ def all_readers():
     return out
 
 
-def alternating(head, steps, count):
+def alternating(head, steps, count, begin=read_count):
     """A write and a read in turns."""
-    return head + read_count(0) + write_count(count) + (step(0) + WRITER) * steps
+    return head + begin(0) + write_count(count) + (step(0) + WRITER) * steps
+
+
+BETWEEN = TENS + write_count(100) + WRITER * 3  # the write stays unfinished, and whole reads are between 99 and 100
+
+
+def cancelled_choices():
+    """A read is cancelled after each number of steps, and the next one is begun with the other choice."""
+    high, none = read_count_high, read_count
+    for name, first, then in (("high-cancelled", high, none), ("none-cancelled", none, high)):
+        for taken in range(5):
+            yield ("%s-%d" % (name, taken), "a read is cancelled after %d steps, and the next has the other choice" % taken,
+                   ["B 0 99 100"], BETWEEN + first(0) + step(0) * taken + cancel(0) + then(0) + step(0) * 5)
+
+
+def busy_choices():
+    """A reader with a read unfinished begins another: each pair of beginnings that has the high end named in it."""
+    beginnings = (("none", read_count(1)), ("high", read_count_high(1)), ("record", read_record(1, 1)))
+    for going_on, first in beginnings:
+        for again, command in beginnings:
+            if "high" in (going_on, again):
+                yield ("busy-%s-by-%s" % (again, going_on), "a read is unfinished: %s, then %s" % (going_on, again), 6,
+                       BETWEEN + first + step(1) * 2 + command)
 
 
 # Name, reason, what it must print (the refusal at its end; or, if there is none, all lines before that), input.
@@ -137,6 +159,43 @@ HAND_MADE = [
      met(header([7, 10, 4], count=45), 5, 3, 121, 5)),
     ("all-readers", "sixteen reads at once, and a step of a carrying write after each turn", None, all_readers()),
 
+    # The high end named. A line tells both ends, and not the choice.
+    ("high-one-place", "m = 1: the copies are one digit, and any choice shows it", ["C 0 4", "C 0 7", "C 1 7"],
+     DIGIT + read_count_high(0) + step(0) + write_count(7) + WRITER + read_count_high(0) + read_count(1) + step(0) + step(1)),
+    ("high-one-place-again", "m = 1: there is no second step of a read", 7, DIGIT + read_count_high(0) + step(0) * 2),
+    ("high-clock", "11:57 becomes 12:04 after the first copy is read", ["B 0 719 720"],
+     met(CLOCK, 3, 2, 724, 3, begin=read_count_high)),
+    ("high-clock-at-rest", "equal copies, at rest", ["C 1 717"], CLOCK + read_count_high(1) + step(1) * 3),
+    ("high-clock-met", "equal copies, though the write of the shared digit alone is met", ["C 0 719"],
+     met(CLOCK, 3, 1, 719, 2, begin=read_count_high)),
+    ("high-099-199", "099 becomes 100: a = 099, b = 199, and the high end is 100", ["B 0 99 100"],
+     met(TENS, 5, 3, 100, 1, begin=read_count_high)),
+    ("none-099-199", "the same without a choice, and the low end is 099", ["B 0 99 100"], met(TENS, 5, 3, 100, 1)),
+    ("high-alternating", "099 becomes 100 in turns with a read", ["B 0 99 100"], alternating(TENS, 5, 100, read_count_high)),
+    ("high-widest-first-place", "all digits change after the first copy is read", ["B 0 %d %d" % (2**56 - 1, 255 << 56)],
+     met(header(WIDEST), 15, 8, LAST, 15, begin=read_count_high)),
+    ("half-05-30", "05 half turned into 30: the low end, 09, is above every count that is whole; both choices",
+     ["B 0 9 30", "B 1 9 30"],
+     header([10, 10], readers=2, count=5) + write_count(30) + WRITER * 2 + read_count(0) + read_count_high(1)
+     + (step(0) + step(1)) * 3),
+    ("half-05-30-early", "the same with the shared digit not yet written: a = 05, b = 35", ["B 0 9 30", "B 1 9 30"],
+     header([10, 10], readers=2, count=5) + write_count(30) + WRITER + read_count_high(0) + read_count(1)
+     + (step(0) + step(1)) * 3),
+    ("both-choices", "two readers in turns with different choices, then the other way around",
+     ["B 0 99 100", "B 1 99 100", "B 1 99 100", "B 0 99 100"],
+     BETWEEN + read_count(0) + read_count_high(1) + (step(0) + step(1)) * 5 + read_count_high(0) + read_count(1)
+     + (step(1) + step(0)) * 5),
+    ("high-then-none", "a read that names the high end, and the same reader's next without a choice", ["B 0 99 100"] * 2,
+     BETWEEN + read_count_high(0) + step(0) * 5 + read_count(0) + step(0) * 5),
+    ("high-then-record", "after a read that names the high end, a record read and a read without a choice",
+     ["B 0 99 100", "R 0 1 0 00", "B 0 99 100"],
+     BETWEEN + read_count_high(0) + step(0) * 5 + read_record(0, 1) + step(0) * 3 + read_count(0) + step(0) * 5),
+] + list(cancelled_choices()) + list(busy_choices()) + [
+    ("high-no-reader", "a reader beyond the last", 8, BETWEEN + read_count(0) + read_count_high(2)),
+    ("high-no-reader-255", "the last reader that a command can name", 8, BETWEEN + read_count_high(255)),
+    ("high-cut", "a body cut short is 11", 11, BETWEEN + read_count_high(1)[:1]),
+    ("high-cut-busy", "11 before 6", 11, DIGIT + read_count_high(0) + read_count_high(0)[:1]),
+
     # Eight places.
     ("widest-top", "eight bases of 256: the top count has eight times 255", ["C 0 %d" % LAST],
      header(WIDEST, count=0) + write_count(LAST) + WRITER * 15 + read_count(0) + step(0) * 15),
@@ -172,6 +231,10 @@ HAND_MADE = [
     ("busy-read", "a read is unfinished with its last step to come", 6, CLOCK + read_count(0) + step(0) * 2 + read_count(0)),
     ("no-reader", "a reader beyond the last", 8, CLOCK + step(2)),
     ("unknown", "an unknown kind ends the run, and what came before is done", 11, CLOCK + write_count(718) + WRITER + b"\x08"),
+] + [
+    ("unknown-%02x" % kind, "an unknown kind, with a read of the high end unfinished", 11,
+     CLOCK + read_count_high(0) + step(0) + bytes([kind, 0]))
+    for kind in (0x00, 0x08, 0x09, 0x0a, 0x0b, 0x0c, 0x0e, 0x0f, 0xff)
 ]
 
 

@@ -39,6 +39,10 @@ def read_count(reader):
     return bytes([4, reader])
 
 
+def read_count_high(reader):
+    return bytes([13, reader])
+
+
 def read_record(reader, attempts):
     return bytes([5, reader, attempts])
 
@@ -69,6 +73,16 @@ def between(rng, low, high):
 
 def some_bytes(rng, length):
     return bytes(rng.randrange(256) for _ in range(length))
+
+
+def some_count_read(rng, reader):
+    """A count read begins, as often with the high end named as without a choice."""
+    return pick(rng, (read_count, read_count_high))(reader)
+
+
+def unknown_kind(rng):
+    """A byte that is no command's kind: most often one next to those that are."""
+    return pick(rng, (0, 8, 9, 10, 11, 12, 14, 15, between(rng, 16, 255), 255))
 
 
 def some_form(rng, m=None, bases=None, q=None, version_base=None, n=None, readers=None, layout=PLAIN):
@@ -128,7 +142,7 @@ class Schedule:
         if self.rng.randrange(4) < records:
             self.add(read_record(reader, pick(self.rng, (1, 1, 2, 2, 3, 3, 4, 255))))
         else:
-            self.add(read_count(reader))
+            self.add(some_count_read(self.rng, reader))
 
     def burst(self, left):
         """How many of the steps left to take at once: mostly one, sometimes just not all. Sometimes one copy of a count is
@@ -247,7 +261,7 @@ def spent(rng):
 
 def schedule_tail(rng):
     """What may follow a refused command: it must not matter."""
-    return pick(rng, (b"", WRITER, step(0), read_count(0) + step(0) * 2, some_bytes(rng, 3)))
+    return pick(rng, (b"", WRITER, step(0), some_count_read(rng, 0) + step(0) * 2, some_bytes(rng, 3)))
 
 
 def refused(rng, layout=PLAIN):
@@ -276,7 +290,7 @@ def refused(rng, layout=PLAIN):
         else:
             if page.reads[reader] is None:
                 schedule.begin_read(reader, 2)
-            command = pick(rng, (read_count(reader), read_record(reader, between(rng, 1, 255))))
+            command = pick(rng, (read_count(reader), read_count_high(reader), read_record(reader, between(rng, 1, 255))))
     elif refusal == 7:
         if rng.randrange(2):
             schedule.finish_write()
@@ -288,15 +302,15 @@ def refused(rng, layout=PLAIN):
     elif refusal == 8:
         absent = pick(rng, (form.readers, between(rng, form.readers, 255), 255))
         beyond = pick(rng, (len(page.records), between(rng, len(page.records), 65535), 65535))
-        command = pick(rng, (read_count(absent), read_record(absent, 1), step(absent), cancel(absent),
-                             write_record(beyond), read_record(reader, 0)))
+        command = pick(rng, (read_count(absent), read_count_high(absent), read_record(absent, 1), step(absent),
+                             cancel(absent), write_record(beyond), read_record(reader, 0)))
     else:
-        command = pick(rng, (bytes([pick(rng, (0, 8, 9, 13, between(rng, 8, 255), 255))]),
-                             write_count(page.count())[:between(rng, 1, 8)], write_record(0)[:between(rng, 1, 2)],
-                             read_count(reader)[:1], read_record(reader, 1)[:between(rng, 1, 2)], step(reader)[:1],
-                             cancel(reader)[:1]))
-        if command[0] in BODY_LENGTH:
-            return schedule.bytes() + command  # cut, so nothing can follow
+        command = bytes([unknown_kind(rng)])
+        if rng.randrange(2):
+            return schedule.bytes() + pick(rng, (  # cut, so nothing can follow
+                write_count(page.count())[:between(rng, 1, 8)], write_record(0)[:between(rng, 1, 2)],
+                read_count(reader)[:1], read_count_high(reader)[:1], read_record(reader, 1)[:between(rng, 1, 2)],
+                step(reader)[:1], cancel(reader)[:1]))
     return schedule.bytes() + command + schedule_tail(rng)
 
 
@@ -312,7 +326,8 @@ def two_refusals(rng, layout=PLAIN):
     over = min(page.most_counts, 2**64 - 1)
     command = pick(rng, (write_count(over), write_count(0), write_record(len(page.records)), write_record(0),
                          read_record(reader, 0), read_record(absent, 0), read_record(absent, 0)[:2],
-                         write_record(65535)[:2], write_count(over)[:8], step(absent), cancel(absent)))
+                         read_count(reader)[:1], read_count_high(reader)[:1], write_record(65535)[:2],
+                         write_count(over)[:8], step(absent), cancel(absent)))
     return schedule.bytes() + command
 
 
@@ -325,23 +340,24 @@ def noise(rng):
             out += pick(rng, (WRITER, step(0), step(0)))
         else:
             reader = rng.randrange(2)
-            out += pick(rng, (step(reader), read_count(reader), cancel(reader), read_record(reader, rng.randrange(4)),
-                              write_record(rng.randrange(4)), write_count(rng.randrange(20)), some_bytes(rng, 1)))
+            out += pick(rng, (step(reader), some_count_read(rng, reader), cancel(reader),
+                              read_record(reader, rng.randrange(4)), write_record(rng.randrange(4)),
+                              write_count(rng.randrange(20)), some_bytes(rng, 1)))
     return bytes(out)
 
 
 def damaged(rng):
-    """A good input with a byte changed, cut at any place, or with bytes appended."""
+    """A good input with a byte changed, cut at any place, or with bytes appended: an unknown command, or any."""
     data = bytearray(pick(rng, (count_race, record_race, mixed, spent))(rng))
     sort = rng.randrange(4)
     if sort == 0:
-        data[rng.randrange(len(data))] = pick(rng, (0, 255, rng.randrange(256)))
+        data[rng.randrange(len(data))] = pick(rng, (0, 255, rng.randrange(256), rng.randrange(16)))
     elif sort == 1:  # the header is short, so that changes in it need a draw of their own
         data[rng.randrange(24)] = rng.randrange(256)
     elif sort == 2:
         data = data[:rng.randrange(len(data))]
     else:
-        data += some_bytes(rng, between(rng, 1, 12))
+        data += bytes([unknown_kind(rng)] * rng.randrange(2)) + some_bytes(rng, between(rng, 1, 12))
     return bytes(data)
 
 
@@ -399,7 +415,7 @@ def dense(rng, most=2000):
             if schedule.page.reads[reader] is not None:
                 schedule.add(step(reader) * 3)
         else:
-            schedule.add(read_count(reader) + step(reader) * 2)
+            schedule.add(some_count_read(rng, reader) + step(reader) * 2)
     schedule.finish_reads()
     return schedule.bytes()
 

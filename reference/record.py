@@ -8,8 +8,8 @@ follow. The files come out the same each time; `--check` writes nothing, compare
 import sys
 from pathlib import Path
 
-from inputs import (DOCUMENT_RUN, KINDS, WRITER, at_limit, cancel, header, kind, make, read_count, read_record, step,
-                    write_count, write_record)
+from inputs import (DOCUMENT_RUN, KINDS, WRITER, at_limit, cancel, header, kind, make, read_count, read_count_high,
+                    read_record, step, write_count, write_record)
 from runlist import MOST_INPUT, printed
 
 FOLDER = Path(__file__).resolve().parent.parent / "crates" / "cases" / "data"
@@ -94,6 +94,25 @@ def all_lines():
             + write_count(8) + WRITER + step(1) + WRITER + read_record(1, 1) + step(1) * 4 + read_count(1) + step(1) * 2)
 
 
+def between_tens(*commands):
+    """099 becomes 100 and the write stays unfinished with c2 whole, so that whole reads by either reader are between; then the
+    commands."""
+    return TENS + write_count(100) + WRITER * 3 + b"".join(commands)
+
+
+def both_choices():
+    """Two readers in turns, one without a choice and one that names the high end; then each with the other's beginning."""
+    turns = (step(0) + step(1)) * 6
+    return between_tens(read_count(0), read_count_high(1), turns, read_count_high(0), read_count(1), turns)
+
+
+def choices_cancelled():
+    """Reads are cancelled after each number of steps, and the next one is begun with the other choice."""
+    return between_tens(*[first(0) + step(0) * taken + cancel(0) + then(0) + step(0) * 6
+                          for first, then in ((read_count_high, read_count), (read_count, read_count_high))
+                          for taken in range(6)])
+
+
 SMALL_HEADER_CUTS = [
     ("header-cut-%02d" % length, "a header of %d bytes, cut after %d" % (len(SMALL), length), 2, SMALL[:length])
     for length in range(1, len(SMALL))]
@@ -101,7 +120,7 @@ SMALL_HEADER_CUTS = [
 CUT_BODIES = [
     ("cut-%02x-after-%d" % (command[0], length), "a body cut short is 11, and what came before is done", 11,
      PAIR + read_count(1) + command[:length])
-    for command in (write_count(5), write_record(0), read_count(0), read_record(0, 1), step(1), cancel(1))
+    for command in (write_count(5), write_record(0), read_count(0), read_record(0, 1), step(1), cancel(1), read_count_high(0))
     for length in sorted({1, len(command) - 1})]
 
 # Name, reason, what the documents want (the refusal at its end; or, if there is none, all lines before that), input.
@@ -238,6 +257,22 @@ HAND_MADE = [
      + step(0) + WRITER * 3),
     ("all-lines", "a line of each sort, by one reader", ["G 1 1", "B 1 5 8", "R 1 1 1 6262", "C 1 8"], all_lines()),
 
+    # The high end named. A line tells both ends, and not the choice.
+    ("high-099-199", "a = 099 and b = 199 with the high end named, then a read without a choice: the line is the same",
+     ["B 0 99 100", "B 0 99 100"],
+     TENS + read_count_high(0) + step(0) * 3 + write_count(100) + WRITER + step(0) * 3 + read_count(0) + step(0) * 6),
+    ("high-equal", "equal copies show themselves to a read that names the high end, at rest and after a whole write",
+     ["C 0 717", "C 0 724"],
+     CLOCK + read_count_high(0) + step(0) * 4 + read_count_high(0) + write_count(724) + WRITER * 4 + step(0) * 4),
+    ("high-cancelled", "a read that names the high end is cancelled, and the next names none; and the reverse",
+     ["B 0 99 100"] * 12, choices_cancelled()),
+    ("both-choices", "two readers in turns with different choices, then the other way around",
+     ["B 0 99 100", "B 1 99 100"] * 2, both_choices()),
+    ("half-05-30", "05 half turned into 30: the low end, 09, is above every count that is whole; both choices",
+     ["B 0 9 30", "B 1 9 30"],
+     header([10, 10], readers=2, count=5) + write_count(30) + WRITER * 2 + read_count(0) + read_count_high(1)
+     + (step(1) + step(0)) * 3 + step(0) + step(1)),
+
     # Races.
     ("trap-150-100", "of two reads that overlap, the later to finish has the lower ends", ["C 1 150", "B 0 99 100"],
      TENS + read_count(0) + step(0) * 3 + write_count(150) + WRITER * 6 + read_count(1) + step(1) * 6 + step(0) * 3),
@@ -295,6 +330,15 @@ HAND_MADE = [
     ("busy-reader-count", "a count read while the reader's record read goes on", 6, PAIR + read_record(1, 1) + read_count(1)),
     ("busy-reader-record", "a record read while the reader's count read goes on", 6,
      PAIR + read_count(1) + step(1) + read_record(1, 1)),
+    ("busy-high-by-none", "a read that would name the high end while the reader's count read without a choice goes on", 6,
+     PAIR + read_count(1) + step(1) + read_count_high(1)),
+    ("busy-high-by-high", "the high end named twice", 6, PAIR + read_count_high(1) + read_count_high(1)),
+    ("busy-none-by-high", "no choice while the reader's read that names the high end goes on", 6,
+     PAIR + read_count_high(1) + step(1) + read_count(1)),
+    ("busy-high-by-record", "the high end named while the reader's record read goes on", 6,
+     PAIR + read_record(1, 1) + step(1) * 3 + read_count_high(1)),
+    ("busy-record-by-high", "a record read while the reader's read that names the high end goes on", 6,
+     PAIR + read_count_high(1) + read_record(1, 1)),
     ("busy-other-reader", "another reader's read makes nobody busy", 0,
      PAIR + read_count(1) + read_count(0) + step(0) * 2 + step(1) * 2),
     ("writer-idle", "a writer step with no write", 7, SMALL + WRITER),
@@ -310,13 +354,18 @@ HAND_MADE = [
     ("record-256", "a place is two bytes, high byte first", 8, PAIR + write_record(256)),
     ("attempts-0", "a record read with no attempt", 8, SMALL + read_record(0, 0)),
     ("absent-begins-count", "an absent reader", 8, SMALL + read_count(1)),
+    ("absent-begins-high", "an absent reader, while the other one is busy", 8, SMALL + read_count(0) + read_count_high(1)),
     ("absent-begins-record", "an absent reader", 8, SMALL + read_record(255, 1)),
     ("absent-steps", "an absent reader, before it is seen that it has no read", 8, SMALL + step(1)),
     ("absent-cancels", "an absent reader, before it is seen that it has no read", 8, SMALL + cancel(255)),
     ("versions-spent", "the top version of base 2 is 1", 9, BIT + SPENT + write_record(0)),
     ("kind-00", "an unknown kind", 11, SMALL + b"\x00"),
     ("kind-08", "an unknown kind", 11, SMALL + COUNT_READ + b"\x08" + COUNT_READ),
-    ("kind-0d", "an unknown kind", 11, SMALL + b"\x0d\x00\x00"),
+    ("kind-09", "an unknown kind", 11, SMALL + read_count_high(0) + b"\x09\x00"),
+    ("kind-0a", "an unknown kind", 11, SMALL + b"\x0a\x00"),
+    ("kind-0b", "an unknown kind", 11, SMALL + b"\x0b\x00"),
+    ("kind-0c", "an unknown kind, below the one that names the high end", 11, SMALL + b"\x0c\x00" + COUNT_READ),
+    ("kind-0e", "an unknown kind, above the one that names the high end", 11, SMALL + b"\x0e\x00" + COUNT_READ),
     ("kind-ff", "an unknown kind", 11, SMALL + b"\xff"),
 ] + CUT_BODIES + [
     ("refused-in-mid-run", "lines before a refusal are printed, commands after it are not carried out", 5,
@@ -337,6 +386,7 @@ HAND_MADE = [
     ("over-top-cut", "11 before 4", 11, SMALL + write_count(LAST)[:8]),
     ("record-cut-busy", "11 before 6", 11, SMALL + write_record(0) + write_record(0)[:2]),
     ("count-read-cut-busy", "11 before 6", 11, SMALL + read_count(0) + read_count(0)[:1]),
+    ("high-cut-busy", "11 before 6", 11, SMALL + read_count_high(0) + read_count_high(0)[:1]),
     ("idle-step-cut", "11 before 7", 11, SMALL + step(0)[:1]),
 ]
 

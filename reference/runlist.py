@@ -8,11 +8,14 @@ import sys
 from collections import deque, namedtuple
 
 MOST_INPUT = 65536
-BODY_LENGTH = {1: 8, 2: 2, 3: 0, 4: 1, 5: 2, 6: 1, 7: 1}  # by the command's kind
+BODY_LENGTH = {1: 8, 2: 2, 3: 0, 4: 1, 5: 2, 6: 1, 7: 1, 13: 1}  # by the command's kind
 WRITE_COUNT, WRITE_RECORD, WRITER_STEP, READ_COUNT, READ_RECORD, READER_STEP, CANCEL = range(1, 8)
+READ_COUNT_HIGH = 13  # READ_COUNT names no end, and this the high one
+LOW, HIGH = range(2)  # the choices of a count read: which end it shows where its copies differ
 PLAIN, FOLDED = range(2)  # the layouts
 
 Form = namedtuple("Form", "bases q version_base n readers layout")
+Ended = namedtuple("Ended", "reader told choice")  # a count read: what `ends` made of it, and the choice it was begun with
 
 
 class Refusal(Exception):
@@ -68,6 +71,11 @@ def ends(a, b, bases):
     return [value(low, bases), value(high, bases)]
 
 
+def shown(ended):
+    """The one count that a count read shows: of equal copies theirs, else the end that its choice names. No line tells it."""
+    return ended.told[-1 if ended.choice == HIGH else 0]
+
+
 class Cell:
     """A byte of the page. On a folded page one cell is the last of both copies."""
 
@@ -86,8 +94,9 @@ def held(row):
 class Read:
     """An unfinished read: the cells still to be loaded, each with the places that take its byte."""
 
-    def __init__(self, allowed):
+    def __init__(self, allowed, choice):
         self.allowed = allowed  # attempts; 0 marks a count read
+        self.choice = choice  # of a count read; LOW in a record read
         self.finished = 0
         self.loads = deque()
 
@@ -108,6 +117,7 @@ class Page:
         self.stores = deque()  # the cells that the write in progress has still to fill, each with its byte
         self.reads = [None] * form.readers
         self.buffers = [bytearray(form.n) for _ in range(form.readers)]
+        self.ended = []  # the count reads that came to their ends, in order
 
     def bytes(self):
         own = [cell for cell in self.c2 if cell is not self.c1[-1]]
@@ -118,6 +128,10 @@ class Page:
 
     def version(self):
         return value(held(self.v1), self.version_bases)
+
+    def choice(self, reader):
+        """What a reader's station keeps of a choice: LOW where no count read is unfinished."""
+        return LOW if self.reads[reader] is None else self.reads[reader].choice
 
     def carry_out(self, kind, body):
         """Carry out one whole command; give the line that it prints, or None."""
@@ -134,9 +148,9 @@ class Page:
         need(reader < self.form.readers, 8)
         if kind == READ_RECORD:
             need(body[1] > 0, 8)
-        if kind in (READ_COUNT, READ_RECORD):
+        if kind in (READ_COUNT, READ_COUNT_HIGH, READ_RECORD):
             need(self.reads[reader] is None, 6)
-            return self.begin_read(reader, 0 if kind == READ_COUNT else body[1])
+            return self.begin_read(reader, body[1] if kind == READ_RECORD else 0, HIGH if kind == READ_COUNT_HIGH else LOW)
         need(self.reads[reader] is not None, 7)
         if kind == READER_STEP:
             return self.reader_step(reader)
@@ -161,8 +175,8 @@ class Page:
         self.stores.extend(zip(self.record, self.records[index]))
         self.stores.extend(zip(self.v2[::-1], digits[::-1]))
 
-    def begin_read(self, reader, allowed):
-        self.reads[reader] = read = Read(allowed)
+    def begin_read(self, reader, allowed, choice):
+        self.reads[reader] = read = Read(allowed, choice)
         if allowed:
             self.begin_attempt(reader)
         else:
@@ -189,6 +203,7 @@ class Page:
             return None
         if not read.allowed:
             told = ends(read.a, read.b, self.form.bases)
+            self.ended.append(Ended(reader, told, read.choice))
             self.reads[reader] = None
             return " ".join(map(str, ["C" if len(told) == 1 else "B", reader] + told))
         read.finished += 1
