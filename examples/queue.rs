@@ -4,16 +4,17 @@
 use lagumtay::queue::{Queue, QueueRefusal, Received, Sent, Serial};
 
 const N: usize = 8;
-const RECORDS: &[u8] = b"batch 17batch 18batch 19batch 20";
+const ENVELOPES: [&[u8; N]; 4] = [b"batch 17", b"batch 18", b"batch 19", b"batch 20"];
 
 fn name(parcel: &[u8]) -> &str {
     std::str::from_utf8(parcel).expect("envelopes have names")
 }
 
 /// A step of the table; gives whether its sending has ended.
-fn send_step(queue: &mut Queue, index: usize) -> Result<bool, QueueRefusal> {
-    let name = name(&RECORDS[index * N..][..N]);
-    match queue.send_step(RECORDS) {
+fn send_step(queue: &mut Queue) -> Result<bool, QueueRefusal> {
+    let parcel = queue.pending_parcel().unwrap_or_default().to_vec();
+    let name = name(&parcel);
+    match queue.send_step() {
         Ok(Sent::PutIn(Serial(serial))) => println!("table: {name} is in, parcel {serial}"),
         Ok(Sent::Ended(_)) => return Ok(true),
         Ok(_) => {}
@@ -46,13 +47,13 @@ fn receive_step(queue: &mut Queue) -> Result<bool, QueueRefusal> {
 }
 
 /// A whole act of the table, as far as it goes; a gathering that is refused is abandoned.
-fn send_whole(queue: &mut Queue, index: usize) -> Result<(), QueueRefusal> {
-    queue.send_begin(RECORDS, index)?;
+fn send_whole(queue: &mut Queue, envelope: &[u8]) -> Result<(), QueueRefusal> {
+    queue.send_begin(envelope)?;
     loop {
-        match send_step(queue, index) {
+        match send_step(queue) {
             Ok(false) => {}
             Ok(true) => return Ok(()),
-            Err(_) => return queue.send_cancel(RECORDS),
+            Err(_) => return queue.send_cancel(),
         }
     }
 }
@@ -71,17 +72,17 @@ fn receive_whole(queue: &mut Queue) -> Result<(), QueueRefusal> {
 fn main() -> Result<(), QueueRefusal> {
     // Numbers 00 to 99, and two places: the third envelope must wait until the desk has taken one.
     let mut queue = Queue::open(&[10, 10], N, 2)?;
-    send_whole(&mut queue, 0)?;
-    send_whole(&mut queue, 1)?;
-    send_whole(&mut queue, 2)?;
+    send_whole(&mut queue, ENVELOPES[0])?;
+    send_whole(&mut queue, ENVELOPES[1])?;
+    send_whole(&mut queue, ENVELOPES[2])?;
     receive_whole(&mut queue)?;
 
     // Both at once, the table's step first: one envelope goes in while another comes out.
-    queue.send_begin(RECORDS, 2)?;
+    queue.send_begin(ENVELOPES[2])?;
     queue.receive_begin()?;
     let (mut sent, mut received) = (false, false);
     while !sent || !received {
-        sent = sent || send_step(&mut queue, 2)?;
+        sent = sent || send_step(&mut queue)?;
         received = received || receive_step(&mut queue)?;
     }
 
@@ -90,7 +91,7 @@ fn main() -> Result<(), QueueRefusal> {
     queue.receive_begin()?;
     receive_step(&mut queue)?;
     assert_eq!(receive_step(&mut queue), Err(QueueRefusal::QueueEmpty));
-    send_whole(&mut queue, 3)?;
+    send_whole(&mut queue, ENVELOPES[3])?;
     while !receive_step(&mut queue)? {}
     Ok(())
 }

@@ -2,35 +2,46 @@
 use crate::{raw, Choice, Count, Version};
 
 /// How a read ended: a count read as shown or between, a record read as accepted or given up.
-#[derive(Clone, Copy, Debug, PartialEq, Eq)]
+#[derive(Clone, Copy, Debug, PartialEq, Eq, Hash)]
 pub enum Entry {
     /// The copies were equal: a count that somebody wrote.
     Shown {
+        /// Who read.
         reader: u8,
+        /// The count.
         count: Count,
     },
-    /// The record is in the reader's buffer.
+    /// The record is in the reader's buffer. **Take it from there before that reader steps again.**
     Accepted {
+        /// Who read.
         reader: u8,
+        /// The attempts used.
         attempts: u8,
+        /// The record's version.
         version: Version,
     },
+    /// The last allowed attempt was torn; the reader's buffer is all zeros.
     GaveUp {
+        /// Who read.
         reader: u8,
+        /// The attempts used: all that were allowed.
         attempts: u8,
     },
-    /// The copies part: the low end is below the high end, and nobody needs to have written either. Both are told under
+    /// The copies part: the low end is below the high end, and nobody need have written either. Both are told under
     /// either choice; [`Entry::shown`] gives the one that is shown.
     Between {
+        /// Who read.
         reader: u8,
+        /// The low end.
         low: Count,
+        /// The high end.
         high: Count,
     },
 }
 
 impl Entry {
-    /// What a step tells, if it ended a read.
-    pub(crate) fn told(outcome: raw::Outcome) -> Option<Entry> {
+    /// What a step of [`raw::Lent::step`] tells, if it ended a read.
+    pub fn told(outcome: raw::Outcome) -> Option<Entry> {
         let raw::Outcome { kind, reader, attempts, choice: _, version, count, low, high } = outcome;
         match kind {
             1 => Some(Entry::Shown { reader, count: Count(count) }),
@@ -41,14 +52,23 @@ impl Entry {
         }
     }
 
-    /// The count shown by a read that was begun with this choice: that of equal copies, else the end that is chosen
-    /// (`shown` of `crates/radix/specs/Copies.antt`). None for a record read.
+    /// Who read.
+    pub fn reader(&self) -> u8 {
+        match *self {
+            Entry::Shown { reader, .. }
+            | Entry::Accepted { reader, .. }
+            | Entry::GaveUp { reader, .. }
+            | Entry::Between { reader, .. } => reader,
+        }
+    }
+
+    /// The count shown by a read that was begun with this choice: that of equal copies, else the end that is chosen.
+    /// None for a record read.
     pub fn shown(&self, choice: Choice) -> Option<Count> {
-        match (*self, choice) {
-            (Entry::Shown { count, .. }, _) => Some(count),
-            (Entry::Between { low, .. }, Choice::Low) => Some(low),
-            (Entry::Between { high, .. }, Choice::High) => Some(high),
-            (Entry::Accepted { .. } | Entry::GaveUp { .. }, _) => None,
+        match *self {
+            Entry::Shown { count, .. } => Some(count),
+            Entry::Between { low, high, .. } => Some(choice.end(low, high)),
+            Entry::Accepted { .. } | Entry::GaveUp { .. } => None,
         }
     }
 }
@@ -58,6 +78,7 @@ impl Entry {
 pub struct Entries<'a>(&'a [u8]);
 
 impl<'a> Entries<'a> {
+    /// The entries in the part of a log that a run has written.
     pub fn new(log: &'a [u8]) -> Entries<'a> {
         Entries(log)
     }
@@ -109,6 +130,11 @@ mod tests {
         let told = |kind| Entry::told(raw::Outcome { kind, ..all });
         assert_eq!([1, 2, 3, 4].map(told), [SHOWN, ACCEPTED, GAVE_UP, BETWEEN].map(Some));
         assert_eq!([0, 5, 255].map(told), [None; 3]);
+    }
+
+    #[test]
+    fn each_kind_has_its_reader() {
+        assert_eq!([SHOWN, ACCEPTED, GAVE_UP, BETWEEN].map(|entry| entry.reader()), [1; 4]);
     }
 
     #[test]

@@ -1,5 +1,47 @@
-//! The archive's calls for a caller who owns the memory, as `include/lagumtay.h` has them. Endings are the bare numbers
-//! that the archive answers.
+//! The archive's calls for a caller who owns the memory, as `include/lagumtay.h` of the repository has them.
+//!
+//! A call answers 0, or the number of a [`Refusal`]: [`Refusal::from_number`] names it. Calls on one page are made one
+//! after another, and nobody else writes what is lent meanwhile, which `&mut` sees to. Three rules are left to the
+//! caller, which a [`Page`](crate::Page) keeps by itself:
+//!
+//! - **Take an accepted record from the reader's buffer before that reader steps again.** The steps of its next record
+//!   read write the same buffer, within one run too: end the run where the record is accepted, or at the latest before
+//!   that reader begins again.
+//! - **The record at [`Writer::index`] stays as it was announced while [`Writer::kind`] is 2.** A write that is begun from
+//!   one record and ended from another is read as a mixture of both. Between writes each call may bring new records.
+//! - What the calls are lent stays as they left it, from [`Lent::open`] on, under the same format.
+//!
+//! ```
+//! use lagumtay::raw::{Answer, Format, Lent, Reader, Writer, LONGEST_ENTRY, PLAIN};
+//! use lagumtay::{Command, Count, Entries, Entry, Refusal};
+//!
+//! let format = Format { q: 1, base: 10, layout: PLAIN, n: 2, readers: 1 };
+//! let (mut page, mut writer) = ([0; 2 * 1 + 2 * 1 + 2], Writer::default());
+//! let (mut readers, mut buffers) = ([Reader::default(); 1], [0; 2]);
+//! let mut lent = Lent {
+//!     format: &format,
+//!     bases: &[10],
+//!     page: &mut page,
+//!     writer: &mut writer,
+//!     readers: &mut readers,
+//!     buffers: &mut buffers,
+//! };
+//! assert_eq!(lent.open(4, b"aa"), 0);
+//!
+//! // Begin a count read of reader 0 and step three times: the third step finds nothing to do.
+//! let commands = [4, 0, 6, 0, 6, 0, 6, 0];
+//! let mut log = [0; LONGEST_ENTRY];
+//! let (Answer { done, written, taken }, number) = lent.run(&[], &commands, &mut log);
+//! assert_eq!((done, Refusal::from_number(number)), (3, Some(Refusal::NothingPending)));
+//! assert_eq!(commands[taken..], [6, 0]);
+//! let entries: Vec<Entry> = Entries::new(&log[..written]).collect();
+//! assert_eq!(entries, [Entry::Shown { reader: 0, count: Count(4) }]);
+//!
+//! // The same by steps of one command.
+//! assert_eq!(lent.step(&[], &Command::ReaderStep(0).raw()).1, Refusal::NothingPending as u8);
+//! ```
+#[cfg(doc)]
+use crate::Refusal;
 
 /// Mirrors `LAGUMTAY_PLAIN`: the count stands on the page twice.
 pub const PLAIN: u16 = 0;
@@ -14,88 +56,122 @@ pub const LOW: u8 = 0;
 /// Mirrors `LAGUMTAY_HIGH`: a count read shows the high end where its copies part, as command 0D names it.
 pub const HIGH: u8 = 1;
 
-/// Mirrors `lagumtay_format`: the numbers of a page but for its count bases, which are lent beside it. The layout is
-/// [`PLAIN`] or [`FOLDED`]; any other is refused.
-#[repr(C)]
-#[derive(Clone, Copy, Debug, Default, PartialEq, Eq)]
-pub struct Format {
-    pub q: usize,
-    pub base: u16,
-    pub layout: u16,
-    pub n: usize,
-    pub readers: usize,
-}
-
-/// Mirrors `lagumtay_writer`: the writer's state. Kind 0: nothing pending; 1: a count; 2: a record. Fields that the
-/// kind does not use are zero.
-#[repr(C)]
-#[derive(Clone, Copy, Debug, Default, PartialEq, Eq)]
-pub struct Writer {
-    pub count: u64,
-    pub index: usize,
-    pub steps: usize,
-    pub version: u32,
-    pub kind: u32,
-}
-
-/// Mirrors `lagumtay_reader`: a reader's state. Kind 0: idle; 1: a count read; 2: a record read. The choice is a count
-/// read's, [`LOW`] or [`HIGH`]. Digits gathered of c1 (or v2) stand from 0 on, those of c2 (or v1) from 8 on; those not
-/// gathered, and fields that the kind does not use, are zero: so is the choice of an idle reader and of a record read.
-/// The shared digit of a folded page stands with those of c1 alone.
-#[repr(C)]
-#[derive(Clone, Copy, Debug, Default, PartialEq, Eq)]
-pub struct Reader {
-    pub kind: u8,
-    pub allowed: u8,
-    pub finished: u8,
-    pub choice: u8,
-    pub steps: usize,
-    pub digits: [u8; 16],
-}
-
-/// Mirrors `lagumtay_answer`: commands carried out, bytes written into the log, and bytes of the commands carried out.
-#[repr(C)]
-#[derive(Clone, Copy, Debug, Default, PartialEq, Eq)]
-pub struct Answer {
-    pub done: usize,
-    pub written: usize,
-    pub taken: usize,
-}
-
-/// Mirrors `lagumtay_command`: a command for a step, by the kinds of the commands' bytes: 1 to 7 and 0x0D. A field that
-/// its kind does not ask for is not looked at.
-#[repr(C)]
-#[derive(Clone, Copy, Debug, Default, PartialEq, Eq)]
-pub struct Command {
-    pub kind: u8,
-    pub reader: u8,
-    pub attempts: u8,
-    pub index: u16,
-    pub count: u64,
-}
-
-/// Mirrors `lagumtay_outcome`: what a step tells, by the kinds of the log's entries. Kind 0: no read finished; 1: a
-/// count shown; 2: a record accepted; 3: a read gave up; 4: between two counts, the low end and the high end, and the
-/// choice with which the read was begun: the count shown is `if choice == HIGH { high } else { low }`. Fields that the
-/// kind does not have are zero.
-#[repr(C)]
-#[derive(Clone, Copy, Debug, Default, PartialEq, Eq)]
-pub struct Outcome {
-    pub kind: u8,
-    pub reader: u8,
-    pub attempts: u8,
-    pub choice: u8,
-    pub version: u32,
-    pub count: u64,
-    pub low: u64,
-    pub high: u64,
-}
-
 /// How many bytes a reader's state has when it is packed.
 pub const PACKED: usize = 28;
 
-/// How many bytes the longest entry of a log has: with so many free there always is room for the next one.
+/// How many bytes the longest entry of a log has: with so many free there always is room for the next one. A log of so
+/// many for each reader step among the commands never fills.
 pub const LONGEST_ENTRY: usize = 18;
+
+/// How many bytes the longest command has.
+pub const LONGEST_COMMAND: usize = 9;
+
+/// How many readers a page has at most.
+pub const MOST_READERS: usize = 16;
+
+/// Mirrors `lagumtay_format`: the numbers of a page but for its m count bases, which are lent beside it, 1 to 8 of 2 to
+/// 256.
+#[repr(C)]
+#[derive(Clone, Copy, Debug, Default, PartialEq, Eq)]
+pub struct Format {
+    /// How many places a version has, 1 to 4.
+    pub q: usize,
+    /// The base of each version place, 2 to 256.
+    pub base: u16,
+    /// [`PLAIN`] or [`FOLDED`].
+    pub layout: u16,
+    /// The bytes of a record, 1 to 256.
+    pub n: usize,
+    /// How many readers there are, 1 to [`MOST_READERS`].
+    pub readers: usize,
+}
+
+/// Mirrors `lagumtay_writer`: the writer's state. Fields that the kind does not use are zero.
+#[repr(C)]
+#[derive(Clone, Copy, Debug, Default, PartialEq, Eq)]
+pub struct Writer {
+    /// The count that is written.
+    pub count: u64,
+    /// Which of the lent records is written. That record must not change meanwhile.
+    pub index: usize,
+    /// The steps taken of the pending write.
+    pub steps: usize,
+    /// The version of the record that is written.
+    pub version: u32,
+    /// 0: nothing pending; 1: a count; 2: a record.
+    pub kind: u32,
+}
+
+/// Mirrors `lagumtay_reader`: a reader's state. Fields that the kind does not use are zero.
+#[repr(C)]
+#[derive(Clone, Copy, Debug, Default, PartialEq, Eq)]
+pub struct Reader {
+    /// 0: idle; 1: a count read; 2: a record read.
+    pub kind: u8,
+    /// The attempts allowed of a record read.
+    pub allowed: u8,
+    /// The attempts of a record read that were torn.
+    pub finished: u8,
+    /// Which end a count read shows: [`LOW`] or [`HIGH`].
+    pub choice: u8,
+    /// The steps taken of a count read, or of the present attempt.
+    pub steps: usize,
+    /// The digits gathered: of c1 (or v2) from 0 on, of c2 (or v1) from 8 on; those not gathered are zero. The shared
+    /// digit of a folded page stands with those of c1 alone.
+    pub digits: [u8; 16],
+}
+
+/// Mirrors `lagumtay_answer`: what a run tells beside its refusal.
+#[repr(C)]
+#[derive(Clone, Copy, Debug, Default, PartialEq, Eq)]
+pub struct Answer {
+    /// The commands carried out.
+    pub done: usize,
+    /// The bytes written into the log.
+    pub written: usize,
+    /// The bytes of the commands carried out: a refused one begins there, and so the rest of a run goes on there.
+    pub taken: usize,
+}
+
+/// Mirrors `lagumtay_command`: a command for a step; [`Command::raw`](crate::Command::raw) makes one. A field that its
+/// kind does not ask for is not looked at.
+#[repr(C)]
+#[derive(Clone, Copy, Debug, Default, PartialEq, Eq)]
+pub struct Command {
+    /// As the first byte of the commands of [`Lent::run`]: 1 to 7 and 0x0D.
+    pub kind: u8,
+    /// Who reads, steps or is cancelled.
+    pub reader: u8,
+    /// The attempts allowed of a record read.
+    pub attempts: u8,
+    /// Which of the lent records is to be written.
+    pub index: u16,
+    /// The count that is to be written.
+    pub count: u64,
+}
+
+/// Mirrors `lagumtay_outcome`: what a step tells; [`Entry::told`](crate::Entry::told) names it. Fields that the kind
+/// does not have are zero.
+#[repr(C)]
+#[derive(Clone, Copy, Debug, Default, PartialEq, Eq)]
+pub struct Outcome {
+    /// 0: no read finished; 1: a count shown; 2: a record accepted; 3: a read gave up; 4: between two counts.
+    pub kind: u8,
+    /// Who read.
+    pub reader: u8,
+    /// The attempts used of a record read.
+    pub attempts: u8,
+    /// Between two counts alone: the choice with which the read was begun, [`LOW`] or [`HIGH`].
+    pub choice: u8,
+    /// The version of an accepted record.
+    pub version: u32,
+    /// The count of equal copies.
+    pub count: u64,
+    /// The low end.
+    pub low: u64,
+    /// The high end.
+    pub high: u64,
+}
 
 extern "C" {
     fn lagumtay_open(
@@ -186,14 +262,21 @@ macro_rules! call {
     };
 }
 
-/// What a page's calls are lent. The header says what lengths and values are accepted; any others are refused.
+/// What a page's calls are lent. Any lengths but these are refused by [`Refusal::WrongLength`].
 #[derive(Debug)]
 pub struct Lent<'a> {
+    /// The page's numbers.
     pub format: &'a Format,
+    /// The bases of its m count places.
     pub bases: &'a [u16],
+    /// Its bytes: c1, c2, v1, the record, v2. Plain 2m + 2q + n, folded one fewer: there the shared digit is the last of
+    /// c1, and c2 has its own digits alone.
     pub page: &'a mut [u8],
+    /// Its writer.
     pub writer: &'a mut Writer,
+    /// Its readers, as many as the format says.
     pub readers: &'a mut [Reader],
+    /// Their buffers, n bytes for each, one after the other.
     pub buffers: &'a mut [u8],
 }
 
@@ -201,12 +284,31 @@ pub struct Lent<'a> {
 // call, those written through from `&mut`, so that none overlap. The archive answers for any values, touches nothing
 // else, and any bytes that it leaves are values of these types.
 impl Lent<'_> {
-    /// `lagumtay_open`.
+    /// `lagumtay_open`: a page with this count and record of n bytes; nothing pending, all readers idle, all buffers
+    /// zero. What was lent before does not matter. Refused by [`Refusal::BadFormat`], [`Refusal::WrongLength`] and
+    /// [`Refusal::CountTooLarge`]; nothing has changed then.
     pub fn open(&mut self, count: u64, record: &[u8]) -> u8 {
         unsafe { call!(lagumtay_open, self, count, record.as_ptr(), record.len()) }
     }
 
-    /// `lagumtay_run`.
+    /// `lagumtay_run`: carry out commands up to the first that is refused, over these records of n bytes each, of which
+    /// there may be none. The refused command has changed nothing, and those before it have been carried out:
+    /// [`Answer::taken`] tells where it begins, so that a caller can go on from there.
+    ///
+    /// A command is a byte of kind, then its body; longer numbers are high byte first. [`Command::put`] writes them:
+    /// 01 write a count (8 bytes), 02 write a record (2 bytes: its index), 03 writer step, 04 begin a count read
+    /// (reader), 05 begin a record read (reader, attempts allowed), 06 reader step (reader), 07 cancel (reader),
+    /// 0D begin a count read that names the high end (reader). Others are refused by [`Refusal::UnknownCommand`].
+    ///
+    /// How reads end is told in the log, whose other bytes keep their contents; [`Entries`](crate::Entries) reads it. An
+    /// entry has 3 to [`LONGEST_ENTRY`] bytes, and only a reader step makes one: so many for each reader step always
+    /// suffice. A step whose entry does not fit is refused by [`Refusal::LogFull`]: run the commands from
+    /// [`Answer::taken`] on with another log.
+    ///
+    /// [`Refusal::BadFormat`], [`Refusal::WrongLength`] and [`Refusal::InvalidState`] are found at the start: then
+    /// nothing at all has changed.
+    ///
+    /// [`Command::put`]: crate::Command::put
     #[inline] // so that a caller, in another crate too, takes the answer out of memory itself
     pub fn run(&mut self, records: &[u8], commands: &[u8], log: &mut [u8]) -> (Answer, u8) {
         // No answer that a run gives, so that one that is not written is seen.
@@ -227,7 +329,8 @@ impl Lent<'_> {
         (answer, ending)
     }
 
-    /// `lagumtay_step`.
+    /// `lagumtay_step`: carry out one command over these records and tell how it ended, with no log. Refused as a run is,
+    /// but never by [`Refusal::LogFull`]; a refused step changes nothing, and its outcome is of kind 0.
     #[inline] // as `run`
     pub fn step(&mut self, records: &[u8], command: &Command) -> (Outcome, u8) {
         // No outcome that a step has, so that one that is not written is seen.
@@ -237,18 +340,21 @@ impl Lent<'_> {
         (outcome, ending)
     }
 
-    /// `lagumtay_cancel`.
+    /// `lagumtay_cancel`: drop the read of one reader, whose buffer keeps its bytes. Refused by [`Refusal::BadFormat`],
+    /// [`Refusal::WrongLength`], [`Refusal::InvalidState`], [`Refusal::NoSuch`] and [`Refusal::NothingPending`].
     pub fn cancel(&mut self, records: &[u8], who: u8) -> u8 {
         unsafe { call!(lagumtay_cancel, self, records.as_ptr(), records.len(), who) }
     }
 }
 
-/// `lagumtay_pack`.
+/// `lagumtay_pack`: readers' states into bytes, [`PACKED`] for each: kind, allowed, finished, choice, steps (8 bytes,
+/// high byte first), 16 digits. Any states can be packed. Refused by [`Refusal::WrongLength`] alone.
 pub fn pack(readers: &[Reader], bytes: &mut [u8]) -> u8 {
     unsafe { lagumtay_pack(readers.as_ptr(), readers.len(), bytes.as_mut_ptr(), bytes.len()) }
 }
 
-/// `lagumtay_unpack`.
+/// `lagumtay_unpack`: readers' states out of bytes, the other way round. Any bytes can be unpacked: a state that no
+/// steps could hold is refused by the next call, by [`Refusal::InvalidState`]. Refused by [`Refusal::WrongLength`] alone.
 pub fn unpack(readers: &mut [Reader], bytes: &[u8]) -> u8 {
     unsafe { lagumtay_unpack(readers.as_mut_ptr(), readers.len(), bytes.as_ptr(), bytes.len()) }
 }
@@ -256,7 +362,7 @@ pub fn unpack(readers: &mut [Reader], bytes: &[u8]) -> u8 {
 #[cfg(test)]
 mod tests {
     use super::*;
-    use std::mem::{align_of, offset_of, size_of};
+    use core::mem::{align_of, offset_of, size_of};
 
     #[test]
     fn structs_have_the_layout_of_the_header() {
@@ -581,7 +687,7 @@ mod tests {
     /// Each field has bytes of its own.
     #[test]
     fn packs_all_fields() {
-        let digits = std::array::from_fn(|i| 20 + i as u8);
+        let digits = core::array::from_fn(|i| 20 + i as u8);
         let first = Reader { kind: 1, allowed: 2, finished: 3, choice: 4, steps: 0x0506_0708_090a_0b0c, digits };
         let readers = [first, Reader { kind: 9, ..first }];
         let mut bytes = [0xee; 2 * PACKED];

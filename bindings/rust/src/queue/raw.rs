@@ -1,13 +1,25 @@
-//! The queue's calls for a caller who owns the memory, as `include/lagumtay_queue.h` has them. Endings are the bare
-//! numbers that the archive answers.
+//! The queue's calls for a caller who owns the memory, as `include/lagumtay_queue.h` of the repository has them.
+//!
+//! A call answers 0, or the number of a [`QueueRefusal`]: [`QueueRefusal::from_number`] names it. Any call may be refused
+//! by [`QueueRefusal::BadFormat`] and [`QueueRefusal::WrongLength`], any but an opening also by
+//! [`QueueRefusal::InvalidState`]; a refused call changes nothing. Calls on one queue are made one after another. Three
+//! rules are left to the caller, which a [`Queue`](super::Queue) keeps by itself:
+//!
+//! - **The record at [`Sender::index`] stays as it was announced while [`Sender::kind`] is 1**, or a mixture of both is
+//!   sent. Between sendings each call may bring new records.
+//! - **A receiving has one buffer throughout.** It holds the parcel, whole, from the step that moved its last byte, step
+//!   m + n, until the next receiving moves a byte: take it before.
+//! - What the calls are lent stays as they left it, from [`Lent::open`] on, under the same format.
+#[cfg(doc)]
+use super::QueueRefusal;
 
 /// Mirrors `lagumtay_queue_format`: the numbers of a queue but for its bases, which are lent beside it.
 #[repr(C)]
 #[derive(Clone, Copy, Debug, Default, PartialEq, Eq)]
 pub struct Format {
-    /// The bytes of a parcel.
+    /// The bytes of a parcel, 1 to 256.
     pub n: usize,
-    /// How many parcels the queue holds.
+    /// How many parcels the queue holds, 1 to 64.
     pub places: usize,
 }
 
@@ -130,14 +142,14 @@ macro_rules! call {
     };
 }
 
-/// What all calls of a queue are lent. The header says what lengths and values are accepted; any others are refused.
+/// What all calls of a queue are lent. Any lengths but these are refused by [`QueueRefusal::WrongLength`].
 #[derive(Debug)]
 pub struct Lent<'a> {
     /// Its numbers.
     pub format: &'a Format,
-    /// The bases of both its numbers' places.
+    /// The bases of the m places of both its numbers, 1 to 8 of 2 to 256.
     pub bases: &'a [u16],
-    /// Its bytes: sent, received, the places.
+    /// Its bytes: sent (m), received (m), the places (n each).
     pub queue: &'a mut [u8],
 }
 
@@ -145,37 +157,42 @@ pub struct Lent<'a> {
 // through from `&mut`, so that none overlap. The archive answers for any values, touches nothing else, and any bytes
 // that it leaves are values of these types.
 impl Lent<'_> {
-    /// `lagumtay_queue_open`.
+    /// `lagumtay_queue_open`: both numbers 0, all places zero, both sides idle. What was lent before does not matter.
     pub fn open(&mut self, sender: &mut Sender, receiver: &mut Receiver) -> u8 {
         unsafe { call!(lagumtay_queue_open, self, as_mut_ptr, sender, receiver) }
     }
 
-    /// `lagumtay_queue_send_begin`.
+    /// `lagumtay_queue_send_begin`: begin to send the record at this index, of n bytes as each. Refused by
+    /// [`QueueRefusal::NoSuch`], [`QueueRefusal::Busy`] and [`QueueRefusal::SerialsExhausted`].
     pub fn send_begin(&self, sender: &mut Sender, records: &[u8], index: usize) -> u8 {
         unsafe { call!(lagumtay_queue_send_begin, self, as_ptr, sender, records.as_ptr(), records.len(), index) }
     }
 
-    /// `lagumtay_queue_send_step`.
+    /// `lagumtay_queue_send_step`: the next step of the sending. Refused by [`QueueRefusal::NothingPending`], and with the
+    /// gathering's last digit by [`QueueRefusal::QueueFull`]: that step can be taken again.
     pub fn send_step(&mut self, sender: &mut Sender, records: &[u8]) -> u8 {
         unsafe { call!(lagumtay_queue_send_step, self, as_mut_ptr, sender, records.as_ptr(), records.len()) }
     }
 
-    /// `lagumtay_queue_send_cancel`.
+    /// `lagumtay_queue_send_cancel`: abandon the sending, which no byte was moved of. Refused by
+    /// [`QueueRefusal::NothingPending`].
     pub fn send_cancel(&self, sender: &mut Sender, records: &[u8]) -> u8 {
         unsafe { call!(lagumtay_queue_send_cancel, self, as_ptr, sender, records.as_ptr(), records.len()) }
     }
 
-    /// `lagumtay_queue_receive_begin`.
+    /// `lagumtay_queue_receive_begin`: begin to receive into this buffer of n bytes. Refused by [`QueueRefusal::Busy`].
     pub fn receive_begin(&self, receiver: &mut Receiver, buffer: &[u8]) -> u8 {
         unsafe { call!(lagumtay_queue_receive_begin, self, as_ptr, receiver, buffer.as_ptr(), buffer.len()) }
     }
 
-    /// `lagumtay_queue_receive_step`.
+    /// `lagumtay_queue_receive_step`: the next step of the receiving. Refused by [`QueueRefusal::NothingPending`], and
+    /// with the gathering's last digit by [`QueueRefusal::QueueEmpty`]: that step can be taken again.
     pub fn receive_step(&mut self, receiver: &mut Receiver, buffer: &mut [u8]) -> u8 {
         unsafe { call!(lagumtay_queue_receive_step, self, as_mut_ptr, receiver, buffer.as_mut_ptr(), buffer.len()) }
     }
 
-    /// `lagumtay_queue_receive_cancel`.
+    /// `lagumtay_queue_receive_cancel`: abandon the receiving, which no byte was moved of. Refused by
+    /// [`QueueRefusal::NothingPending`].
     pub fn receive_cancel(&self, receiver: &mut Receiver, buffer: &[u8]) -> u8 {
         unsafe { call!(lagumtay_queue_receive_cancel, self, as_ptr, receiver, buffer.as_ptr(), buffer.len()) }
     }
@@ -184,7 +201,7 @@ impl Lent<'_> {
 #[cfg(test)]
 mod tests {
     use super::*;
-    use std::mem::{align_of, offset_of, size_of};
+    use core::mem::{align_of, offset_of, size_of};
 
     #[test]
     fn structs_have_the_layout_of_the_header() {

@@ -1,0 +1,98 @@
+//! Many commands at once.
+//!
+//! The archive takes them in pieces, so that an accepted record is copied before its reader can overwrite it. A piece
+//! ends before a reader begins a second read in it, where one that is unfinished at its start counts as the first. So
+//! each reader ends at most one read in a piece: its buffer is as that read left it when the piece has ended, its
+//! choice is known, and a log with one entry for each reader never fills.
+use alloc::vec::Vec;
+
+use crate::command::append;
+use crate::raw::{LONGEST_ENTRY, MOST_READERS};
+use crate::refusal::ending;
+use crate::{Choice, Command, Entries, Outcome, Page, Reading, Refusal};
+
+/// How a run went.
+#[derive(Clone, Debug, PartialEq, Eq)]
+pub struct Ran {
+    /// The commands carried out.
+    pub done: usize,
+    /// How reads ended, in order; [`Outcome::Nothing`] is not among them.
+    pub outcomes: Vec<Outcome>,
+    /// The refusal of the command after those carried out.
+    pub ending: Result<(), Refusal>,
+}
+
+impl Page {
+    /// Carry out commands up to the first that is refused; the refusals are those of [`Page::step`]. The refused one has
+    /// changed nothing, and the ones before it have been carried out, each as by a step. An accepted record is in its
+    /// outcome, whatever its reader did after.
+    pub fn run(&mut self, commands: &[Command]) -> Ran {
+        let mut ran = Ran { done: 0, outcomes: Vec::new(), ending: Ok(()) };
+        let mut bytes = Vec::new();
+        while ran.ending.is_ok() && ran.done < commands.len() {
+            self.run_piece(&commands[ran.done..], &mut bytes, &mut ran);
+        }
+        ran
+    }
+
+    /// Run the first piece of these commands, of which there is one at least. What `bytes` holds does not matter.
+    fn run_piece(&mut self, commands: &[Command], bytes: &mut Vec<u8>, ran: &mut Ran) {
+        let mut reads = Reads::unfinished(self);
+        bytes.clear();
+        commands[..reads.piece(commands)].iter().for_each(|&command| append(command, bytes));
+        let mut log = [0; MOST_READERS * LONGEST_ENTRY];
+        let (answer, number) = self.lend(|lent, records| lent.run(records, bytes, &mut log));
+        ran.done += answer.done;
+        ran.outcomes.extend(
+            Entries::new(&log[..answer.written]).map(|entry| self.outcome(entry, reads.choice(entry.reader()))),
+        );
+        ran.ending = ending(number);
+    }
+}
+
+/// Of each reader the choice of the one read that it has in a piece, if it has one. A record read has any.
+struct Reads([Option<Choice>; MOST_READERS]);
+
+impl Reads {
+    /// Those that are unfinished where the piece starts.
+    fn unfinished(page: &Page) -> Reads {
+        let mut reads = Reads([None; MOST_READERS]);
+        for (read, state) in reads.0.iter_mut().zip(&page.readers) {
+            *read = match Reading::of(state) {
+                Reading::Idle => None,
+                Reading::Count { choice, .. } => Some(choice),
+                Reading::Record { .. } => Some(Choice::default()),
+            };
+        }
+        reads
+    }
+
+    /// How many of these commands are in the piece. The first one is always: if it is a second read it is refused.
+    fn piece(&mut self, commands: &[Command]) -> usize {
+        let fits = |&(i, &command): &(usize, &Command)| self.note(command) || i == 0;
+        commands.iter().enumerate().take_while(fits).count()
+    }
+
+    /// Note the read that a command begins; false if its reader has one already.
+    fn note(&mut self, command: Command) -> bool {
+        let (reader, choice) = match command {
+            Command::BeginCountRead { reader, choice } => (reader, choice),
+            Command::BeginRecordRead { reader, .. } => (reader, Choice::default()),
+            _ => return true,
+        };
+        match self.0.get_mut(usize::from(reader)) {
+            Some(Some(_)) => false,
+            Some(none) => {
+                *none = Some(choice);
+                true
+            }
+            // No such reader: the command will be refused.
+            None => true,
+        }
+    }
+
+    /// The choice of a read that ended.
+    fn choice(&self, reader: u8) -> Choice {
+        self.0[usize::from(reader)].expect("a read that was begun")
+    }
+}
