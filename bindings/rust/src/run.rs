@@ -96,3 +96,36 @@ impl Reads {
         self.0[usize::from(reader)].expect("a read that was begun")
     }
 }
+
+#[cfg(test)]
+mod tests {
+    use super::*;
+    use Command::*;
+
+    const COUNT: Command = BeginCountRead { reader: 0, choice: Choice::High };
+    const RECORD: Command = BeginRecordRead { reader: 0, attempts: 1 };
+    const OTHER: Command = BeginRecordRead { reader: 15, attempts: 1 };
+    const BEYOND: Command = BeginRecordRead { reader: 16, attempts: 1 };
+
+    /// The length of the first piece, if reader 0 has a read unfinished or not.
+    fn piece(unfinished: bool, commands: &[Command]) -> usize {
+        let mut reads = Reads([None; MOST_READERS]);
+        reads.0[0] = unfinished.then_some(Choice::Low);
+        reads.piece(commands)
+    }
+
+    #[test]
+    fn a_piece_ends_before_a_second_read() {
+        for begin in [COUNT, RECORD] {
+            for second in [COUNT, RECORD] {
+                assert_eq!(piece(false, &[begin, ReaderStep(0), Cancel(0), second, WriterStep]), 3);
+                assert_eq!(piece(false, &[begin, second]), 1);
+            }
+            assert_eq!(piece(true, &[ReaderStep(0), begin]), 1);
+            assert_eq!(piece(true, &[begin, ReaderStep(0), ReaderStep(0)]), 3);
+            assert_eq!(piece(true, &[begin, begin]), 1);
+            assert_eq!(piece(true, &[OTHER, ReaderStep(15), BEYOND, BEYOND, ReaderStep(0)]), 5);
+            assert_eq!(piece(false, &[OTHER, begin, OTHER]), 2);
+        }
+    }
+}
