@@ -110,6 +110,7 @@
 //! [`Command`], [`Refusal`], [`Entry`], [`Entries`] and the numbers. No feature needs `std`.
 #![no_std]
 #![deny(missing_docs)]
+#![cfg_attr(not(feature = "alloc"), allow(rustdoc::broken_intra_doc_links))] // those to Page and Queue
 
 #[cfg(feature = "alloc")]
 extern crate alloc;

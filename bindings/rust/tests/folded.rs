@@ -1,36 +1,22 @@
 //! Folded pages against document 02: the digit that each step moves, the refusals that a shared digit decides, and the
 //! recorded schedules of `reference/data/folded.txt`.
-use std::fmt::Write;
+mod common;
+
 use std::fs;
 use std::path::Path;
 
-use lagumtay::raw::PACKED;
+use common::memory::Memory;
+use common::{accepted, begin, begin_record, go, steps};
+use lagumtay::raw::{LONGEST_ENTRY, PACKED};
 use lagumtay::Command::*;
-use lagumtay::{commands, Choice, Command, Count, Entry, Format, Layout, Page, Ran, Refusal, Version};
+use lagumtay::{Choice, Command, Count, Entries, Entry, Format, Layout, Outcome, Page, Reading, Refusal};
 
 fn format(bases: &[u16]) -> Format {
-    Format { bases: bases.to_vec(), q: 1, base: 10, layout: Layout::Folded, n: 2, readers: 2 }
+    common::format(Layout::Folded, bases)
 }
 
 fn opened(bases: &[u16], count: u64) -> Page {
-    Page::open(format(bases), Count(count), b"aa").unwrap()
-}
-
-/// Carry out commands that are not refused; gives how reads ended.
-fn go(page: &mut Page, list: &[Command]) -> Vec<Entry> {
-    let mut log = [0; 100];
-    let ran = page.run(b"bbcc", &commands(list.iter().copied()), &mut log);
-    assert_eq!((ran.done, ran.ending), (list.len(), Ok(())));
-    ran.entries().collect()
-}
-
-fn steps(command: Command, times: usize) -> Vec<Command> {
-    vec![command; times]
-}
-
-/// A count read without a choice.
-fn begin(reader: u8) -> Command {
-    BeginCountRead { reader, choice: Choice::Low }
+    common::opened(Layout::Folded, bases, count)
 }
 
 fn write(page: &mut Page, count: u64) {
@@ -38,17 +24,17 @@ fn write(page: &mut Page, count: u64) {
     assert_eq!(go(page, &[vec![WriteCount(Count(count))], steps(WriterStep, all)].concat()), []);
 }
 
-fn read(page: &mut Page) -> Vec<Entry> {
+fn read(page: &mut Page) -> Vec<Outcome> {
     let all = page.format().count_steps();
     go(page, &[vec![begin(0)], steps(ReaderStep(0), all)].concat())
 }
 
-fn shown(count: u64) -> Vec<Entry> {
-    vec![Entry::Shown { reader: 0, count: Count(count) }]
+fn shown(count: u64) -> Vec<Outcome> {
+    vec![common::shown(0, count)]
 }
 
-fn between(low: u64, high: u64) -> Vec<Entry> {
-    vec![Entry::Between { reader: 0, low: Count(low), high: Count(high) }]
+fn between(low: u64, high: u64) -> Vec<Outcome> {
+    vec![common::between(0, low, high, Choice::Low)]
 }
 
 #[test]
@@ -83,20 +69,22 @@ fn moves_one_digit_a_step() {
     let mut page = opened(&[24, 60], 11 * 60 + 57);
     go(&mut page, &[WriteCount(Count(12 * 60 + 4))]);
     for digits in [[11, 57, 12], [11, 4, 12], [12, 4, 12]] {
-        assert_eq!(page.step(b"", WriterStep), Ok(None));
+        assert_eq!(page.step(WriterStep), Ok(Outcome::Nothing));
         assert_eq!(page.bytes()[..3], digits);
         assert_eq!(page.bytes()[3..], [0, b'a', b'a', 0]);
     }
-    assert_eq!(page.step(b"", WriterStep), Err(Refusal::NothingPending));
+    assert_eq!(page.step(WriterStep), Err(Refusal::NothingPending));
     go(&mut page, &[begin(0)]);
     for (steps, a, b) in [(1, [12, 0], [0, 0]), (2, [12, 4], [0, 0])] {
-        assert_eq!(page.step(b"", ReaderStep(0)), Ok(None));
+        assert_eq!(page.step(ReaderStep(0)), Ok(Outcome::Nothing));
         let saved = page.save();
-        // The bytes of a state: four, then eight of steps, then sixteen digits.
-        assert_eq!((saved[11], &saved[12..14], &saved[20..22]), (steps, &a[..], &b[..]));
+        // The states of two readers, then two buffers and two records of two bytes. A state has four bytes, then eight
+        // of steps, then sixteen digits.
+        let state = &saved[saved.len() - 8 - 2 * PACKED..];
+        assert_eq!((state[11], &state[12..14], &state[20..22]), (steps, &a[..], &b[..]));
     }
-    assert_eq!(page.step(b"", ReaderStep(0)), Ok(Some(shown(12 * 60 + 4)[0])));
-    assert_eq!(page.step(b"", ReaderStep(0)), Err(Refusal::NothingPending));
+    assert_eq!(page.step(ReaderStep(0)), Ok(common::shown(0, 12 * 60 + 4)));
+    assert_eq!(page.step(ReaderStep(0)), Err(Refusal::NothingPending));
 }
 
 #[test]
@@ -106,13 +94,13 @@ fn one_place_is_never_between() {
     // Announced, and not yet written; then written.
     assert_eq!(go(&mut page, &[begin(0), WriteCount(Count(7)), ReaderStep(0)]), shown(4));
     assert_eq!(go(&mut page, &[begin(0), WriterStep, ReaderStep(0)]), shown(7));
-    assert_eq!(page.step(b"", WriteCount(Count(6))), Err(Refusal::CountDecreases));
+    assert_eq!(page.step(WriteCount(Count(6))), Err(Refusal::CountDecreases));
     write(&mut page, 7);
     assert_eq!(read(&mut page), shown(7));
 }
 
 /// A read that took this many steps meets a whole write.
-fn met(bases: &[u16], opening: u64, written: u64, taken: usize) -> Vec<Entry> {
+fn met(bases: &[u16], opening: u64, written: u64, taken: usize) -> Vec<Outcome> {
     let mut page = opened(bases, opening);
     go(&mut page, &[vec![begin(0)], steps(ReaderStep(0), taken)].concat());
     write(&mut page, written);
@@ -139,17 +127,17 @@ fn two_places_part_in_the_first_alone() {
 #[test]
 fn shows_the_chosen_end() {
     let mut page = opened(&[24, 60], 11 * 60 + 57);
-    for (choice, shown) in [(Choice::Low, 719), (Choice::High, 720)] {
+    for (choice, end) in [(Choice::Low, 719), (Choice::High, 720)] {
         go(&mut page, &[vec![BeginCountRead { reader: 0, choice }], steps(ReaderStep(0), 2)].concat());
-        assert_eq!(page.choice(0), Some(choice));
+        assert_eq!(page.reader(0), Some(Reading::Count { choice, steps: 2 }));
         if choice == Choice::Low {
             go(&mut page, &[WriteCount(Count(12 * 60 + 4)), WriterStep]);
         }
-        let entry = between(719, 720)[0];
-        assert_eq!(page.clone().step(b"", ReaderStep(0)), Ok(Some(entry)));
-        assert_eq!(go(&mut page, &[ReaderStep(0)]), [entry]);
-        assert_eq!(entry.shown(choice), Some(Count(shown)));
-        assert_eq!(page.choice(0), None);
+        let outcome = common::between(0, 719, 720, choice);
+        assert_eq!(outcome.shown(), Some(Count(end)));
+        assert_eq!(page.clone().step(ReaderStep(0)), Ok(outcome.clone()));
+        assert_eq!(go(&mut page, &[ReaderStep(0)]), [outcome]);
+        assert_eq!(page.reader(0), Some(Reading::Idle));
     }
 }
 
@@ -159,7 +147,7 @@ fn eight_places_up_to_the_largest_count() {
     write(&mut page, u64::MAX);
     assert_eq!(page.bytes()[..15], [255; 15]);
     assert_eq!(read(&mut page), shown(u64::MAX));
-    assert_eq!(page.step(b"", WriteCount(Count(u64::MAX - 1))), Err(Refusal::CountDecreases));
+    assert_eq!(page.step(WriteCount(Count(u64::MAX - 1))), Err(Refusal::CountDecreases));
     // Of a read that has the first copy: all of its own digits are from before, and so is the shared one.
     assert_eq!(met(&[256; 8], 0, u64::MAX, 8), between((1 << 56) - 1, 255 << 56));
     assert_eq!(met(&[256; 8], u64::MAX - 1, u64::MAX, 7), shown(u64::MAX));
@@ -173,9 +161,9 @@ fn a_shared_digit_tells_what_goes_back() {
     for (bases, count) in [(&[10][..], 4), (&[24, 60], 11 * 60 + 57), (&[10, 10, 10], 123), (&[256; 8], u64::MAX)] {
         let mut page = opened(bases, count);
         let before = page.clone();
-        assert_eq!(page.step(b"", WriteCount(Count(count - 1))), Err(Refusal::CountDecreases));
+        assert_eq!(page.step(WriteCount(Count(count - 1))), Err(Refusal::CountDecreases));
         assert_eq!(page, before);
-        assert_eq!(page.step(b"", WriteCount(Count(count))), Ok(None));
+        assert_eq!(page.step(WriteCount(Count(count))), Ok(Outcome::Nothing));
     }
 }
 
@@ -186,15 +174,15 @@ fn refuses_states_of_a_plain_page() {
         let mut page = opened(&vec![10; m], 5);
         go(&mut page, &[vec![begin(1)], steps(ReaderStep(1), 2 * m - 2)].concat());
         let saved = page.save();
-        for (at, byte) in [(PACKED + 12 + 8 + m - 1, 1), (PACKED + 11, 2 * m as u8 - 1), (PACKED + 3, 2)] {
+        // The second reader's state is followed by two buffers and two records of two bytes.
+        let state = saved.len() - 8 - PACKED;
+        for (at, byte) in [(12 + 8 + m - 1, 1), (11, 2 * m as u8 - 1), (3, 2)] {
             let mut wrong = saved.clone();
-            wrong[at] = byte;
-            assert_eq!(page.restore(&wrong), Ok(()));
-            assert_eq!(page.step(b"", ReaderStep(1)), Err(Refusal::InvalidState), "m = {m}, byte {at}");
+            wrong[state + at] = byte;
+            assert_eq!(Page::restore(&wrong), Err(Refusal::InvalidState), "m = {m}, byte {at}");
         }
-        assert_eq!(page.restore(&saved), Ok(()));
-        let entry = Entry::Shown { reader: 1, count: Count(5) };
-        assert_eq!(page.step(b"", ReaderStep(1)), Ok(Some(entry)));
+        let mut page = Page::restore(&saved).unwrap();
+        assert_eq!(page.step(ReaderStep(1)), Ok(common::shown(1, 5)));
     }
 }
 
@@ -202,9 +190,8 @@ fn refuses_states_of_a_plain_page() {
 fn records_stand_behind_the_shorter_count() {
     let mut page = opened(&[10, 10], 42);
     let write = [vec![WriteRecord(1)], steps(WriterStep, 4)].concat();
-    let read = [vec![BeginRecordRead { reader: 0, attempts: 1 }], steps(ReaderStep(0), 4)].concat();
-    let accepted = Entry::Accepted { reader: 0, attempts: 1, version: Version(1) };
-    assert_eq!(go(&mut page, &[write, read].concat()), [accepted]);
+    let read = [vec![begin_record(0, 1)], steps(ReaderStep(0), 4)].concat();
+    assert_eq!(go(&mut page, &[write, read].concat()), [accepted(0, 1, 1, b"cc")]);
     assert_eq!(page.bytes(), [4, 2, 4, 1, b'c', b'c', 1]);
     assert_eq!(page.buffer(0), Some(&b"cc"[..]));
 }
@@ -227,8 +214,17 @@ fn number(bytes: &[u8]) -> u64 {
     bytes.iter().fold(0, |x, &byte| x << 8 | u64::from(byte))
 }
 
-/// A page opened as the input's header says, on the folded layout; the lent records and the commands after it.
-fn opened_from(mut input: &[u8]) -> (Result<Page, Refusal>, &[u8], &[u8]) {
+/// What the header of an input says: the format, on the folded layout, the first count and record, the records to be
+/// written, and the commands after it.
+struct Recorded<'a> {
+    format: Format,
+    count: Count,
+    record: &'a [u8],
+    records: &'a [u8],
+    commands: &'a [u8],
+}
+
+fn recorded(mut input: &[u8]) -> Recorded<'_> {
     let m = take(&mut input, 1)[0];
     let bases = (0..m).map(|_| number(take(&mut input, 2)) as u16).collect();
     let [q, base, n, readers] = [1, 2, 2, 1].map(|length| number(take(&mut input, length)) as usize);
@@ -237,56 +233,106 @@ fn opened_from(mut input: &[u8]) -> (Result<Page, Refusal>, &[u8], &[u8]) {
     let size = number(take(&mut input, 2)) as usize;
     let records = take(&mut input, size * n);
     let format = Format { bases, q, base: base as u16, layout: Layout::Folded, n, readers };
-    (Page::open(format, count, record), records, input)
+    Recorded { format, count, record, records, commands: input }
 }
 
-/// The first command of some bytes, which may be none or cut short.
-fn first_command(bytes: &[u8]) -> &[u8] {
-    let length = match bytes[0] {
-        1 => 9,
-        2 | 5 => 3,
-        4 | 6 | 7 | 13 => 2,
-        _ => 1,
+/// The first command of some bytes, and how many it has; a bare byte, and no command, if it is unknown or cut short.
+fn first_command(bytes: &[u8]) -> (Option<Command>, usize) {
+    let command = match *bytes {
+        [1, a, b, c, d, e, f, g, h, ..] => WriteCount(Count(u64::from_be_bytes([a, b, c, d, e, f, g, h]))),
+        [2, a, b, ..] => WriteRecord(u16::from_be_bytes([a, b])),
+        [3, ..] => WriterStep,
+        [4, reader, ..] => BeginCountRead { reader, choice: Choice::Low },
+        [5, reader, attempts, ..] => BeginRecordRead { reader, attempts },
+        [6, reader, ..] => ReaderStep(reader),
+        [7, reader, ..] => Cancel(reader),
+        [13, reader, ..] => BeginCountRead { reader, choice: Choice::High },
+        _ => return (None, bytes.len()),
     };
-    &bytes[..bytes.len().min(length)]
+    (Some(command), lagumtay::commands([command]).len())
 }
 
 fn hex(bytes: &[u8]) -> String {
     bytes.iter().fold(String::new(), |text, byte| text + &format!("{byte:02x}"))
 }
 
-fn print(out: &mut String, entry: Entry, page: &Page) {
+/// The line of a read that ended so, with this record if it has one.
+fn line(entry: Entry, record: &[u8]) -> String {
     match entry {
-        Entry::Shown { reader, count } => writeln!(out, "C {reader} {}", count.0),
-        Entry::Between { reader, low, high } => writeln!(out, "B {reader} {} {}", low.0, high.0),
-        Entry::GaveUp { reader, attempts } => writeln!(out, "G {reader} {attempts}"),
+        Entry::Shown { reader, count } => format!("C {reader} {}\n", count.0),
+        Entry::Between { reader, low, high } => format!("B {reader} {} {}\n", low.0, high.0),
+        Entry::GaveUp { reader, attempts } => format!("G {reader} {attempts}\n"),
         Entry::Accepted { reader, attempts, version } => {
-            writeln!(out, "R {reader} {attempts} {} {}", version.0, hex(page.buffer(reader).unwrap()))
+            format!("R {reader} {attempts} {} {}\n", version.0, hex(record))
         }
     }
-    .unwrap();
 }
 
-/// All that is recorded of an input, from runs of one command each: a record is printed as its buffer holds it then.
-/// Gives the page too, and how many commands were carried out.
-fn replayed(input: &[u8]) -> (String, Option<(Page, usize)>) {
-    let (mut page, records, mut rest) = match opened_from(input) {
-        (Ok(page), records, rest) => (page, records, rest),
-        (Err(why), ..) => return (format!("END 0 {}\n", why as u8), None),
-    };
-    let (mut out, mut done, mut refusal) = (String::new(), 0, 0);
-    while !rest.is_empty() && refusal == 0 {
-        let command = first_command(rest);
-        let mut log = [0; lagumtay::raw::LONGEST_ENTRY];
-        let ran = page.run(records, command, &mut log);
-        refusal = ran.ending.map_or_else(|why| why as u8, |()| 0);
-        done += ran.done;
-        ran.entries().for_each(|entry| print(&mut out, entry, &page));
-        rest = &rest[command.len()..];
+/// The same of an outcome, which has its record.
+fn line_of(outcome: &Outcome) -> String {
+    match *outcome {
+        Outcome::Nothing => String::new(),
+        Outcome::Shown { reader, count } => line(Entry::Shown { reader, count }, b""),
+        Outcome::Between { reader, low, high, .. } => line(Entry::Between { reader, low, high }, b""),
+        Outcome::GaveUp { reader, attempts } => line(Entry::GaveUp { reader, attempts }, b""),
+        Outcome::Accepted { reader, attempts, version, ref record } => {
+            line(Entry::Accepted { reader, attempts, version }, record)
+        }
     }
+}
+
+/// The last lines.
+fn end(done: usize, why: Option<Refusal>, page: &[u8], buffers: &[u8]) -> String {
+    let number = why.map_or(0, |why| why as u8);
+    format!("END {done} {number}\npage {}\nbuffers {}\n", hex(page), hex(buffers))
+}
+
+/// All that is recorded of an input, from runs of one command's bytes each: a record is printed as its buffer holds it
+/// then.
+fn replayed_raw(input: &Recorded) -> String {
+    let mut memory = match Memory::open(&input.format, input.count.0, input.record) {
+        Ok(memory) => memory,
+        Err(why) => return format!("END 0 {}\n", why as u8),
+    };
+    let (mut out, mut done, mut refusal, mut rest) = (String::new(), 0, None, input.commands);
+    while !rest.is_empty() && refusal.is_none() {
+        let (_, length) = first_command(rest);
+        let mut log = [0; LONGEST_ENTRY];
+        let (answer, why) = memory.run(input.records, &rest[..length], &mut log);
+        for entry in Entries::new(&log[..answer.written]) {
+            out += &line(entry, memory.buffer(entry.reader()));
+        }
+        (done, refusal, rest) = (done + answer.done, why, &rest[length..]);
+    }
+    out + &end(done, refusal, &memory.page, &memory.buffers)
+}
+
+/// What one run of all bytes leaves: how many reads ended, and the last lines. None if the opening is refused.
+fn at_once(input: &Recorded) -> Option<(usize, String)> {
+    let mut memory = Memory::open(&input.format, input.count.0, input.record).ok()?;
+    let mut log = vec![0; LONGEST_ENTRY * input.commands.len()];
+    let (answer, why) = memory.run(input.records, input.commands, &mut log);
+    let ended = Entries::new(&log[..answer.written]).count();
+    Some((ended, end(answer.done, why, &memory.page, &memory.buffers)))
+}
+
+/// The same as recorded from a page: all commands in one run. Bytes that are no command are none for a page.
+fn replayed(input: &Recorded) -> String {
+    let mut page = match Page::open(input.format.clone(), input.count, input.record) {
+        Ok(page) => page,
+        Err(why) => return format!("END 0 {}\n", why as u8),
+    };
+    page.set_records(input.records).unwrap();
+    let (mut list, mut rest) = (Vec::new(), input.commands);
+    while let (Some(command), length) = first_command(rest) {
+        list.push(command);
+        rest = &rest[length..];
+    }
+    let ran = page.run(&list);
+    let unknown = (!rest.is_empty()).then_some(Refusal::UnknownCommand);
     let buffers: Vec<u8> = (0..16).flat_map(|reader| page.buffer(reader).unwrap_or_default().to_vec()).collect();
-    writeln!(out, "END {done} {refusal}\npage {}\nbuffers {}", hex(page.bytes()), hex(&buffers)).unwrap();
-    (out, Some((page, done)))
+    let lines: String = ran.outcomes.iter().map(line_of).collect();
+    lines + &end(ran.done, ran.ending.err().or(unknown), page.bytes(), &buffers)
 }
 
 #[test]
@@ -298,20 +344,13 @@ fn replays_the_recorded_schedules() {
         let (name, rest) = block.split_once('\n').expect("a name");
         let (input, expected) = rest.split_once('\n').expect("an input");
         let input = bytes(input);
-        let (found, left) = replayed(&input);
-        assert_eq!(found.trim_end(), expected, "{name}");
+        assert_eq!(replayed_raw(&recorded(&input)).trim_end(), expected, "{name}");
+        assert_eq!(replayed(&recorded(&input)).trim_end(), expected, "{name}");
+        if let Some((ended, last)) = at_once(&recorded(&input)) {
+            assert!(expected.ends_with(last.trim_end()), "{name}");
+            assert_eq!(expected.lines().count(), ended + 3, "{name}");
+        }
         schedules += 1;
-        let Some((left, commands_done)) = left else { continue };
-        // One run of all commands leaves the same.
-        let (page, records, commands) = opened_from(&input);
-        let mut page = page.unwrap();
-        let mut log = vec![0; lagumtay::raw::LONGEST_ENTRY * commands.len()];
-        let Ran { done, log, ending, .. } = page.run(records, commands, &mut log);
-        assert_eq!((&page, done), (&left, commands_done), "{name}");
-        let number = ending.map_or_else(|why| why as u8, |()| 0);
-        assert!(expected.contains(&format!("END {done} {number}\n")), "{name}");
-        let lines = expected.lines().take_while(|line| !line.starts_with("END")).count();
-        assert_eq!(lagumtay::Entries::new(log).count(), lines, "{name}");
     }
     assert!(schedules >= 130, "only {schedules} recorded schedules found");
 }

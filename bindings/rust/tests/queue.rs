@@ -3,7 +3,7 @@
 use lagumtay::queue::QueueRefusal::*;
 use lagumtay::queue::{Queue, QueueRefusal, Received, Sent, Serial};
 
-const RECORDS: &[u8; 9] = b"abcdefghi";
+const PARCELS: [&[u8; 3]; 3] = [b"abc", b"def", b"ghi"];
 
 /// Hours and minutes, parcels of 3 bytes, 2 places: an act has 7 steps.
 fn opened() -> Queue {
@@ -12,9 +12,9 @@ fn opened() -> Queue {
 
 /// A whole sending.
 fn send(queue: &mut Queue, index: usize) -> Serial {
-    let serial = queue.send_begin(RECORDS, index).unwrap();
+    let serial = queue.send_begin(PARCELS[index]).unwrap();
     loop {
-        if let Sent::Ended(ended) = queue.send_step(RECORDS).unwrap() {
+        if let Sent::Ended(ended) = queue.send_step().unwrap() {
             assert_eq!(ended, serial);
             return serial;
         }
@@ -39,7 +39,7 @@ fn opens_a_queue() {
     let queue = opened();
     assert_eq!(queue.bytes(), [0; 10]);
     assert_eq!((queue.bases(), queue.n(), queue.places()), (&[24, 60][..], 3, 2));
-    assert_eq!(queue.pending_record(), None);
+    assert_eq!(queue.pending_parcel(), None);
 }
 
 #[test]
@@ -61,16 +61,17 @@ fn refuses_openings() {
 #[test]
 fn tells_what_each_step_did() {
     let mut queue = opened();
-    assert_eq!(queue.send_begin(RECORDS, 2), Ok(Serial(0)));
-    assert_eq!(queue.pending_record(), Some(2));
+    assert_eq!(queue.send_begin(PARCELS[2]), Ok(Serial(0)));
+    assert_eq!(queue.pending_parcel(), Some(&b"ghi"[..]));
     let mut told = Vec::new();
     for _ in 0..7 {
-        told.push(queue.send_step(RECORDS).unwrap());
+        told.push(queue.send_step().unwrap());
     }
     let put_in = Sent::PutIn(Serial(0));
     let ended = Sent::Ended(Serial(0));
     assert_eq!(told, [Sent::Gathered, Sent::Gathered, Sent::Moved, Sent::Moved, put_in, Sent::Wrote, ended]);
-    assert_eq!((queue.send_step(RECORDS), queue.pending_record()), (Err(NothingPending), None));
+    assert_eq!(queue.send_step(), Err(NothingPending));
+    assert_eq!(queue.pending_parcel(), None);
     assert_eq!(queue.bytes(), b"\x00\x01\x00\x00ghi\0\0\0");
 
     assert_eq!(queue.receive_begin(), Ok(Serial(0)));
@@ -93,13 +94,13 @@ fn tells_what_each_step_did() {
 #[test]
 fn tells_the_steps_of_the_smallest_format() {
     let mut queue = Queue::open(&[3], 1, 1).unwrap();
-    for (serial, record) in [(Serial(0), b'b'), (Serial(1), b'a')] {
-        assert_eq!(queue.send_begin(b"ab", if record == b'a' { 0 } else { 1 }), Ok(serial));
-        let told: Vec<Sent> = (0..3).map(|_| queue.send_step(b"ab").unwrap()).collect();
+    for (serial, parcel) in [(Serial(0), b'b'), (Serial(1), b'a')] {
+        assert_eq!(queue.send_begin(&[parcel]), Ok(serial));
+        let told: Vec<Sent> = (0..3).map(|_| queue.send_step().unwrap()).collect();
         assert_eq!(told, [Sent::Gathered, Sent::PutIn(serial), Sent::Ended(serial)]);
-        assert_eq!(receive(&mut queue), [(serial, vec![record])]);
+        assert_eq!(receive(&mut queue), [(serial, vec![parcel])]);
     }
-    assert_eq!(queue.send_begin(b"ab", 0), Err(SerialsExhausted));
+    assert_eq!(queue.send_begin(b"a"), Err(SerialsExhausted));
 }
 
 #[test]
@@ -117,8 +118,7 @@ fn parcels_come_out_whole_once_and_in_order() {
         }
     }
     let sent = (0..200).flat_map(|round| (0..=round % 2).map(move |i| (round + i) % 3));
-    let expected: Vec<_> =
-        sent.enumerate().map(|(i, record)| (Serial(i as u64), RECORDS[3 * record..][..3].to_vec())).collect();
+    let expected: Vec<_> = sent.enumerate().map(|(i, parcel)| (Serial(i as u64), PARCELS[parcel].to_vec())).collect();
     assert_eq!(out, expected);
     assert_eq!(out.len(), 300);
 }
@@ -128,11 +128,11 @@ fn parcels_come_out_whole_once_and_in_order() {
 fn both_sides_go_on_together() {
     let mut queue = opened();
     send(&mut queue, 0);
-    queue.send_begin(RECORDS, 1).unwrap();
+    queue.send_begin(PARCELS[1]).unwrap();
     queue.receive_begin().unwrap();
     let mut out = None;
     for _ in 0..7 {
-        queue.send_step(RECORDS).unwrap();
+        queue.send_step().unwrap();
         if let Received::CopiedOut(serial, parcel) = queue.receive_step().unwrap() {
             out = Some((serial, parcel.to_vec()));
         }
@@ -165,11 +165,11 @@ fn full_and_empty() {
     queue.receive_cancel().unwrap();
 
     send(&mut queue, 1);
-    queue.send_begin(RECORDS, 2).unwrap();
-    assert_eq!(queue.send_step(RECORDS), Ok(Sent::Gathered));
-    refused(&mut queue, QueueFull, |queue| queue.send_step(RECORDS));
+    queue.send_begin(PARCELS[2]).unwrap();
+    assert_eq!(queue.send_step(), Ok(Sent::Gathered));
+    refused(&mut queue, QueueFull, |queue| queue.send_step());
     assert_eq!(receive(&mut queue), [(Serial(0), b"abc".to_vec())]);
-    assert_eq!(queue.send_step(RECORDS), Ok(Sent::Gathered));
+    assert_eq!(queue.send_step(), Ok(Sent::Gathered));
 }
 
 /// 59 becomes 60 between the two digits of a gathering: it sees 0, and must be made afresh.
@@ -191,23 +191,39 @@ fn a_gathering_that_meets_the_other_side_is_made_afresh() {
 #[test]
 fn refuses_what_does_not_fit() {
     let mut queue = opened();
-    refused(&mut queue, NothingPending, |queue| queue.send_step(RECORDS));
-    refused(&mut queue, NothingPending, |queue| queue.send_cancel(RECORDS));
+    refused(&mut queue, NothingPending, |queue| queue.send_step());
+    refused(&mut queue, NothingPending, |queue| queue.send_cancel());
     refused(&mut queue, NothingPending, |queue| queue.receive_step().map(|_| ()));
     refused(&mut queue, NothingPending, |queue| queue.receive_cancel());
-    refused(&mut queue, WrongLength, |queue| queue.send_begin(&RECORDS[1..], 0));
-    refused(&mut queue, NoSuch, |queue| queue.send_begin(RECORDS, 3));
-    refused(&mut queue, NoSuch, |queue| queue.send_begin(b"", 0));
+    for wrong in [&b""[..], b"a", b"ab", b"abcd", b"abcdef"] {
+        refused(&mut queue, WrongLength, |queue| queue.send_begin(wrong));
+    }
 
-    queue.send_begin(RECORDS, 2).unwrap();
+    queue.send_begin(PARCELS[2]).unwrap();
     queue.receive_begin().unwrap();
-    refused(&mut queue, Busy, |queue| queue.send_begin(RECORDS, 0));
+    refused(&mut queue, Busy, |queue| queue.send_begin(PARCELS[0]));
     refused(&mut queue, Busy, |queue| queue.receive_begin());
-    refused(&mut queue, NoSuch, |queue| queue.send_begin(RECORDS, 3));
-    refused(&mut queue, WrongLength, |queue| queue.send_step(&RECORDS[1..]));
-    // The record that was announced is not lent.
-    refused(&mut queue, InvalidState, |queue| queue.send_step(&RECORDS[..6]));
-    refused(&mut queue, InvalidState, |queue| queue.send_cancel(&RECORDS[..6]));
+    refused(&mut queue, WrongLength, |queue| queue.send_begin(b"abcdef"));
+}
+
+/// What is sent is the parcel as it was when its sending began.
+#[test]
+fn a_queue_keeps_a_copy() {
+    let mut queue = opened();
+    let mut mine = *b"abc";
+    queue.send_begin(&mine).unwrap();
+    for step in 0..7 {
+        mine.fill(b'0' + step);
+        queue.send_step().unwrap();
+    }
+    // One that was cancelled leaves nothing behind.
+    queue.send_begin(b"xyz").unwrap();
+    queue.send_step().unwrap();
+    queue.send_cancel().unwrap();
+    assert_eq!(queue.pending_parcel(), None);
+    assert_eq!(send(&mut queue, 1), Serial(1));
+    assert_eq!(receive(&mut queue), [(Serial(0), b"abc".to_vec())]);
+    assert_eq!(receive(&mut queue), [(Serial(1), b"def".to_vec())]);
 }
 
 #[test]
@@ -215,17 +231,17 @@ fn an_act_is_cancelled_until_a_byte_is_moved() {
     for steps in 0..7 {
         let mut queue = opened();
         send(&mut queue, 0);
-        queue.send_begin(RECORDS, 1).unwrap();
+        queue.send_begin(PARCELS[1]).unwrap();
         queue.receive_begin().unwrap();
         for _ in 0..steps {
-            queue.send_step(RECORDS).unwrap();
+            queue.send_step().unwrap();
             queue.receive_step().unwrap();
         }
         if steps <= 2 {
-            assert_eq!((queue.send_cancel(RECORDS), queue.receive_cancel()), (Ok(()), Ok(())));
-            assert_eq!((queue.send_begin(RECORDS, 1), queue.receive_begin()), (Ok(Serial(1)), Ok(Serial(0))));
+            assert_eq!((queue.send_cancel(), queue.receive_cancel()), (Ok(()), Ok(())));
+            assert_eq!((queue.send_begin(PARCELS[1]), queue.receive_begin()), (Ok(Serial(1)), Ok(Serial(0))));
         } else {
-            refused(&mut queue, NothingPending, |queue| queue.send_cancel(RECORDS));
+            refused(&mut queue, NothingPending, |queue| queue.send_cancel());
             refused(&mut queue, NothingPending, |queue| queue.receive_cancel());
         }
     }
@@ -235,7 +251,8 @@ fn an_act_is_cancelled_until_a_byte_is_moved() {
 fn opens_again() {
     let mut queue = opened();
     send(&mut queue, 0);
-    queue.send_begin(RECORDS, 1).unwrap();
+    receive(&mut queue);
+    queue.send_begin(PARCELS[1]).unwrap();
     queue.receive_begin().unwrap();
     assert_eq!(queue.open_again(), Ok(()));
     assert_eq!(queue, opened());
@@ -246,6 +263,8 @@ fn refusals_have_their_numbers_and_words() {
     let all =
         [BadFormat, WrongLength, InvalidState, Busy, NothingPending, NoSuch, SerialsExhausted, QueueFull, QueueEmpty];
     assert_eq!(all.map(|why| why as u8), [1, 2, 3, 6, 7, 8, 9, 13, 14]);
+    assert_eq!(all.map(|why| QueueRefusal::from_number(why as u8)), all.map(Some));
+    assert_eq!([0, 4, 5, 10, 12, 15, 255].map(QueueRefusal::from_number), [None; 7]);
     let mut words: Vec<String> = all.iter().map(|why| why.to_string()).collect();
     words.sort();
     words.dedup();

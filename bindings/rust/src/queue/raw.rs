@@ -306,6 +306,25 @@ mod tests {
         }
     }
 
+    /// Records that are no multiple of a parcel, too few, or without the one that was announced.
+    #[test]
+    fn the_archive_looks_at_the_records() {
+        let mut memory = Memory::opened();
+        let begin = |memory: &mut Memory, records: &[u8], index| {
+            memory.lent(|lent, sender, _, _| lent.send_begin(sender, records, index))
+        };
+        assert_eq!(begin(&mut memory, &RECORDS[1..], 0), 2);
+        assert_eq!(begin(&mut memory, RECORDS, 3), 8);
+        assert_eq!(begin(&mut memory, &[], 0), 8);
+        memory.send(2, 0);
+        assert_eq!(begin(&mut memory, RECORDS, 0), 6);
+        assert_eq!(begin(&mut memory, RECORDS, 3), 8);
+        assert_eq!(memory.lent(|lent, sender, _, _| lent.send_step(sender, &RECORDS[1..])), 2);
+        assert_eq!(memory.lent(|lent, sender, _, _| lent.send_step(sender, &RECORDS[..4])), 3);
+        assert_eq!(memory.lent(|lent, sender, _, _| lent.send_cancel(sender, &RECORDS[..4])), 3);
+        assert_eq!(memory.sender, Sender { kind: 1, index: 2, ..Sender::default() });
+    }
+
     #[test]
     fn cancels_what_it_began() {
         let mut memory = Memory::opened();
