@@ -32,7 +32,7 @@ impl Format {
 
     /// The steps of a record write, and of an attempt to read one: 2q + n.
     pub fn record_steps(&self) -> usize {
-        2 * self.q + self.n
+        self.q.saturating_mul(2).saturating_add(self.n)
     }
 
     /// How many bytes a page has. The format is one that [`Format::check`] lets pass.

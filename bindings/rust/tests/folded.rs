@@ -49,6 +49,8 @@ fn has_a_digit_fewer() {
         assert_eq!(format(&vec![2; m]).count_steps(), 2 * m - 1);
         assert_eq!(Format { layout: Layout::Plain, ..format(&vec![2; m]) }.count_steps(), 2 * m);
     }
+    assert_eq!(Format { q: 4, n: 256, ..format(&[2]) }.record_steps(), 264);
+    assert_eq!(Format { q: usize::MAX, n: usize::MAX, ..format(&[2]) }.record_steps(), usize::MAX);
     assert_eq!([Layout::Plain as u16, Layout::Folded as u16], [0, 1]);
 }
 
