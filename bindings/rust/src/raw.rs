@@ -287,6 +287,7 @@ impl Lent<'_> {
     /// `lagumtay_open`: a page with this count and record of n bytes; nothing pending, all readers idle, all buffers
     /// zero. What was lent before does not matter. Refused by [`Refusal::BadFormat`], [`Refusal::WrongLength`] and
     /// [`Refusal::CountTooLarge`]; nothing has changed then.
+    #[must_use = "it may be refused"]
     pub fn open(&mut self, count: u64, record: &[u8]) -> u8 {
         unsafe { call!(lagumtay_open, self, count, record.as_ptr(), record.len()) }
     }
@@ -309,6 +310,7 @@ impl Lent<'_> {
     /// nothing at all has changed.
     ///
     /// [`Command::put`]: crate::Command::put
+    #[must_use = "it may be refused"]
     #[inline] // so that a caller, in another crate too, takes the answer out of memory itself
     pub fn run(&mut self, records: &[u8], commands: &[u8], log: &mut [u8]) -> (Answer, u8) {
         // No answer that a run gives, so that one that is not written is seen.
@@ -331,6 +333,7 @@ impl Lent<'_> {
 
     /// `lagumtay_step`: carry out one command over these records and tell how it ended, with no log. Refused as a run is,
     /// but never by [`Refusal::LogFull`]; a refused step changes nothing, and its outcome is of kind 0.
+    #[must_use = "it may be refused"]
     #[inline] // as `run`
     pub fn step(&mut self, records: &[u8], command: &Command) -> (Outcome, u8) {
         // No outcome that a step has, so that one that is not written is seen.
@@ -342,6 +345,7 @@ impl Lent<'_> {
 
     /// `lagumtay_cancel`: drop the read of one reader, whose buffer keeps its bytes. Refused by [`Refusal::BadFormat`],
     /// [`Refusal::WrongLength`], [`Refusal::InvalidState`], [`Refusal::NoSuch`] and [`Refusal::NothingPending`].
+    #[must_use = "it may be refused"]
     pub fn cancel(&mut self, records: &[u8], who: u8) -> u8 {
         unsafe { call!(lagumtay_cancel, self, records.as_ptr(), records.len(), who) }
     }
@@ -349,12 +353,14 @@ impl Lent<'_> {
 
 /// `lagumtay_pack`: readers' states into bytes, [`PACKED`] for each: kind, allowed, finished, choice, steps (8 bytes,
 /// high byte first), 16 digits. Any states can be packed. Refused by [`Refusal::WrongLength`] alone.
+#[must_use = "it may be refused"]
 pub fn pack(readers: &[Reader], bytes: &mut [u8]) -> u8 {
     unsafe { lagumtay_pack(readers.as_ptr(), readers.len(), bytes.as_mut_ptr(), bytes.len()) }
 }
 
 /// `lagumtay_unpack`: readers' states out of bytes, the other way round. Any bytes can be unpacked: a state that no
 /// steps could hold is refused by the next call, by [`Refusal::InvalidState`]. Refused by [`Refusal::WrongLength`] alone.
+#[must_use = "it may be refused"]
 pub fn unpack(readers: &mut [Reader], bytes: &[u8]) -> u8 {
     unsafe { lagumtay_unpack(readers.as_mut_ptr(), readers.len(), bytes.as_ptr(), bytes.len()) }
 }

@@ -12,6 +12,7 @@ use crate::refusal::ending;
 use crate::{Choice, Command, Entries, Outcome, Page, Reading, Refusal};
 
 /// How a run went.
+#[must_use = "a command may have been refused, and outcomes have the records that were accepted"]
 #[derive(Clone, Debug, PartialEq, Eq)]
 pub struct Ran {
     /// The commands carried out.

@@ -158,41 +158,48 @@ pub struct Lent<'a> {
 // that it leaves are values of these types.
 impl Lent<'_> {
     /// `lagumtay_queue_open`: both numbers 0, all places zero, both sides idle. What was lent before does not matter.
+    #[must_use = "it may be refused"]
     pub fn open(&mut self, sender: &mut Sender, receiver: &mut Receiver) -> u8 {
         unsafe { call!(lagumtay_queue_open, self, as_mut_ptr, sender, receiver) }
     }
 
     /// `lagumtay_queue_send_begin`: begin to send the record at this index, of n bytes as each. Refused by
     /// [`QueueRefusal::NoSuch`], [`QueueRefusal::Busy`] and [`QueueRefusal::SerialsExhausted`].
+    #[must_use = "it may be refused"]
     pub fn send_begin(&self, sender: &mut Sender, records: &[u8], index: usize) -> u8 {
         unsafe { call!(lagumtay_queue_send_begin, self, as_ptr, sender, records.as_ptr(), records.len(), index) }
     }
 
     /// `lagumtay_queue_send_step`: the next step of the sending. Refused by [`QueueRefusal::NothingPending`], and with the
     /// gathering's last digit by [`QueueRefusal::QueueFull`]: that step can be taken again.
+    #[must_use = "it may be refused"]
     pub fn send_step(&mut self, sender: &mut Sender, records: &[u8]) -> u8 {
         unsafe { call!(lagumtay_queue_send_step, self, as_mut_ptr, sender, records.as_ptr(), records.len()) }
     }
 
     /// `lagumtay_queue_send_cancel`: abandon the sending, which no byte was moved of. Refused by
     /// [`QueueRefusal::NothingPending`].
+    #[must_use = "it may be refused"]
     pub fn send_cancel(&self, sender: &mut Sender, records: &[u8]) -> u8 {
         unsafe { call!(lagumtay_queue_send_cancel, self, as_ptr, sender, records.as_ptr(), records.len()) }
     }
 
     /// `lagumtay_queue_receive_begin`: begin to receive into this buffer of n bytes. Refused by [`QueueRefusal::Busy`].
+    #[must_use = "it may be refused"]
     pub fn receive_begin(&self, receiver: &mut Receiver, buffer: &[u8]) -> u8 {
         unsafe { call!(lagumtay_queue_receive_begin, self, as_ptr, receiver, buffer.as_ptr(), buffer.len()) }
     }
 
     /// `lagumtay_queue_receive_step`: the next step of the receiving. Refused by [`QueueRefusal::NothingPending`], and
     /// with the gathering's last digit by [`QueueRefusal::QueueEmpty`]: that step can be taken again.
+    #[must_use = "it may be refused"]
     pub fn receive_step(&mut self, receiver: &mut Receiver, buffer: &mut [u8]) -> u8 {
         unsafe { call!(lagumtay_queue_receive_step, self, as_mut_ptr, receiver, buffer.as_mut_ptr(), buffer.len()) }
     }
 
     /// `lagumtay_queue_receive_cancel`: abandon the receiving, which no byte was moved of. Refused by
     /// [`QueueRefusal::NothingPending`].
+    #[must_use = "it may be refused"]
     pub fn receive_cancel(&self, receiver: &mut Receiver, buffer: &[u8]) -> u8 {
         unsafe { call!(lagumtay_queue_receive_cancel, self, as_ptr, receiver, buffer.as_ptr(), buffer.len()) }
     }
