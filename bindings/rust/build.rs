@@ -1,5 +1,6 @@
 //! Links the proved archives. Each is looked for where its variable names it, in the repository, and where pkg-config
-//! knows it. Both are copied to one place, so that one of the same name in the other's directory cannot be taken instead.
+//! knows it. Both are copied to one place, so that one of the same name in the other's directory cannot be taken
+//! instead.
 use std::path::{Path, PathBuf};
 use std::process::{exit, Command};
 use std::{env, fs};

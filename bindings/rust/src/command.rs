@@ -34,8 +34,8 @@ pub enum Command {
 }
 
 impl Command {
-    /// Put the command's bytes at the front of these; gives how many they are, at most [`raw::LONGEST_COMMAND`]. None if
-    /// they do not fit: nothing is written then.
+    /// Put the command's bytes at the front of these; gives how many they are, at most [`raw::LONGEST_COMMAND`]. None
+    /// if they do not fit: nothing is written then.
     ///
     /// ```
     /// use lagumtay::{raw::LONGEST_COMMAND, Command};

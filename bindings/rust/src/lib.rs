@@ -48,12 +48,12 @@
 //! ```
 //!
 //! A count read that meets a write may end as [`Outcome::Between`] two counts. Then a read begun with [`Choice::Low`],
-//! which names no end, shows the low one, and one begun with [`Choice::High`] the high one: [`Outcome::shown`] gives it.
-//! Either lies in the span from the last count fully written before the read's first step to the last one begun before
-//! its last step; the low end may be above every count fully written. A record that is accepted is whole.
+//! which names no end, shows the low one, and one begun with [`Choice::High`] the high one: [`Outcome::shown`] gives
+//! it. Either lies in the span from the last count fully written before the read's first step to the last one begun
+//! before its last step; the low end may be above every count fully written. A record that is accepted is whole.
 //!
-//! A page is laid out plain or folded, as its [`Layout`] says: a folded one has a count digit fewer, and a count write or
-//! read a step fewer.
+//! A page is laid out plain or folded, as its [`Layout`] says: a folded one has a count digit fewer, and a count write
+//! or read a step fewer.
 //!
 //! # Several threads
 //!
@@ -105,9 +105,9 @@
 //!
 //! # Beside it
 //!
-//! [`queue`] hands parcels from one sender to one receiver. [`raw`] and [`queue::raw`] are for callers who own the memory
-//! themselves. Without the feature `alloc`, which is on by default, these are left, and all that needs no allocator:
-//! [`Command`], [`Refusal`], [`Entry`], [`Entries`] and the numbers. No feature needs `std`.
+//! [`queue`] hands parcels from one sender to one receiver. [`raw`] and [`queue::raw`] are for callers who own the
+//! memory themselves. Without the feature `alloc`, which is on by default, these are left, and all that needs no
+//! allocator: [`Command`], [`Refusal`], [`Entry`], [`Entries`] and the numbers. No feature needs `std`.
 #![no_std]
 #![deny(missing_docs)]
 #![cfg_attr(not(feature = "alloc"), allow(rustdoc::broken_intra_doc_links))] // those to Page and Queue

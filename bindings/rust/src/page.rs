@@ -18,8 +18,8 @@ pub struct Page {
 }
 
 impl Page {
-    /// A page with this count and record: nothing pending, all readers idle, all buffers zero, no records to be written.
-    /// Refused by [`Refusal::BadFormat`], [`Refusal::WrongLength`] (the record has not n bytes) and
+    /// A page with this count and record: nothing pending, all readers idle, all buffers zero, no records to be
+    /// written. Refused by [`Refusal::BadFormat`], [`Refusal::WrongLength`] (the record has not n bytes) and
     /// [`Refusal::CountTooLarge`].
     pub fn open(format: Format, count: Count, record: &[u8]) -> Result<Page, Refusal> {
         format.check()?;
@@ -41,8 +41,8 @@ impl Page {
         ending(self.lend(|lent, _| lent.open(count.0, record)))
     }
 
-    /// The records that [`Command::WriteRecord`] names, n bytes each, in place of those before. They are copied, so that
-    /// none changes while it is written. Refused by [`Refusal::WrongLength`] if they are no multiple of n, and by
+    /// The records that [`Command::WriteRecord`] names, n bytes each, in place of those before. They are copied, so
+    /// that none changes while it is written. Refused by [`Refusal::WrongLength`] if they are no multiple of n, and by
     /// [`Refusal::Busy`] if a record write is pending that would find another record at its index, or none; nothing has
     /// changed then. Others may change meanwhile.
     ///
@@ -73,9 +73,9 @@ impl Page {
         Ok(())
     }
 
-    /// Carry out one command; tells how a read ended, if this command ended one. Refused by
-    /// [`Refusal::CountTooLarge`], [`Refusal::CountDecreases`], [`Refusal::Busy`], [`Refusal::NothingPending`],
-    /// [`Refusal::NoSuch`], [`Refusal::VersionsExhausted`], and on a page that was restored from bytes that nobody saved
+    /// Carry out one command; tells how a read ended, if this command ended one. Refused by [`Refusal::CountTooLarge`],
+    /// [`Refusal::CountDecreases`], [`Refusal::Busy`], [`Refusal::NothingPending`], [`Refusal::NoSuch`],
+    /// [`Refusal::VersionsExhausted`], and on a page that was restored from bytes that nobody saved
     /// [`Refusal::CopiesCrossed`]. A refused command changes nothing.
     pub fn step(&mut self, command: Command) -> Result<Outcome, Refusal> {
         let (told, number) = self.lend(|lent, records| lent.step(records, &command.raw()));
@@ -88,8 +88,8 @@ impl Page {
         Outcome::of(entry, choice, self.buffer(entry.reader()).expect("a reader of the page"))
     }
 
-    /// Drop a reader's read, as [`Command::Cancel`] does; its buffer keeps its bytes. Refused by [`Refusal::NoSuch`] and
-    /// [`Refusal::NothingPending`].
+    /// Drop a reader's read, as [`Command::Cancel`] does; its buffer keeps its bytes. Refused by [`Refusal::NoSuch`]
+    /// and [`Refusal::NothingPending`].
     pub fn cancel(&mut self, reader: u8) -> Result<(), Refusal> {
         ending(self.lend(|lent, records| lent.cancel(records, reader)))
     }
@@ -116,8 +116,8 @@ impl Page {
         &self.format
     }
 
-    /// The page's bytes: c1, c2, v1, the record, v2. On a folded page the shared digit is the last of c1, and c2 has its
-    /// own digits alone.
+    /// The page's bytes: c1, c2, v1, the record, v2. On a folded page the shared digit is the last of c1, and c2 has
+    /// its own digits alone.
     pub fn bytes(&self) -> &[u8] {
         &self.page
     }

@@ -7,8 +7,9 @@
 //! - **Take an accepted record from the reader's buffer before that reader steps again.** The steps of its next record
 //!   read write the same buffer, within one run too: end the run where the record is accepted, or at the latest before
 //!   that reader begins again.
-//! - **The record at [`Writer::index`] stays as it was announced while [`Writer::kind`] is 2.** A write that is begun from
-//!   one record and ended from another is read as a mixture of both. Between writes each call may bring new records.
+//! - **The record at [`Writer::index`] stays as it was announced while [`Writer::kind`] is 2.** A write that is begun
+//!   from one record and ended from another is read as a mixture of both. Between writes each call may bring new
+//!   records.
 //! - What the calls are lent stays as they left it, from [`Lent::open`] on, under the same format.
 //!
 //! ```
@@ -269,8 +270,8 @@ pub struct Lent<'a> {
     pub format: &'a Format,
     /// The bases of its m count places.
     pub bases: &'a [u16],
-    /// Its bytes: c1, c2, v1, the record, v2. Plain 2m + 2q + n, folded one fewer: there the shared digit is the last of
-    /// c1, and c2 has its own digits alone.
+    /// Its bytes: c1, c2, v1, the record, v2. Plain 2m + 2q + n, folded one fewer: there the shared digit is the last
+    /// of c1, and c2 has its own digits alone.
     pub page: &'a mut [u8],
     /// Its writer.
     pub writer: &'a mut Writer,
@@ -301,8 +302,8 @@ impl Lent<'_> {
     /// (reader), 05 begin a record read (reader, attempts allowed), 06 reader step (reader), 07 cancel (reader),
     /// 0D begin a count read that names the high end (reader). Others are refused by [`Refusal::UnknownCommand`].
     ///
-    /// How reads end is told in the log, whose other bytes keep their contents; [`Entries`](crate::Entries) reads it. An
-    /// entry has 3 to [`LONGEST_ENTRY`] bytes, and only a reader step makes one: so many for each reader step always
+    /// How reads end is told in the log, whose other bytes keep their contents; [`Entries`](crate::Entries) reads it.
+    /// An entry has 3 to [`LONGEST_ENTRY`] bytes, and only a reader step makes one: so many for each reader step always
     /// suffice. A step whose entry does not fit is refused by [`Refusal::LogFull`]: run the commands from
     /// [`Answer::taken`] on with another log.
     ///
@@ -331,8 +332,8 @@ impl Lent<'_> {
         (answer, ending)
     }
 
-    /// `lagumtay_step`: carry out one command over these records and tell how it ended, with no log. Refused as a run is,
-    /// but never by [`Refusal::LogFull`]; a refused step changes nothing, and its outcome is of kind 0.
+    /// `lagumtay_step`: carry out one command over these records and tell how it ended, with no log. Refused as a run
+    /// is, but never by [`Refusal::LogFull`]; a refused step changes nothing, and its outcome is of kind 0.
     #[must_use = "it may be refused"]
     #[inline] // as `run`
     pub fn step(&mut self, records: &[u8], command: &Command) -> (Outcome, u8) {
@@ -359,7 +360,8 @@ pub fn pack(readers: &[Reader], bytes: &mut [u8]) -> u8 {
 }
 
 /// `lagumtay_unpack`: readers' states out of bytes, the other way round. Any bytes can be unpacked: a state that no
-/// steps could hold is refused by the next call, by [`Refusal::InvalidState`]. Refused by [`Refusal::WrongLength`] alone.
+/// steps could hold is refused by the next call, by [`Refusal::InvalidState`]. Refused by [`Refusal::WrongLength`]
+/// alone.
 #[must_use = "it may be refused"]
 pub fn unpack(readers: &mut [Reader], bytes: &[u8]) -> u8 {
     unsafe { lagumtay_unpack(readers.as_mut_ptr(), readers.len(), bytes.as_ptr(), bytes.len()) }

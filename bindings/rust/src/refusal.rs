@@ -50,8 +50,8 @@ impl Refusal {
         Refusal::LogFull,
     ];
 
-    /// The refusal of this number, as a call of [`raw`](crate::raw) answers it: none for 0, which says that the call was
-    /// carried out, and none for a number that no call answers.
+    /// The refusal of this number, as a call of [`raw`](crate::raw) answers it: none for 0, which says that the call
+    /// was carried out, and none for a number that no call answers.
     pub fn from_number(number: u8) -> Option<Refusal> {
         Refusal::ALL.into_iter().find(|&why| why as u8 == number)
     }

@@ -24,9 +24,9 @@ pub struct Ran {
 }
 
 impl Page {
-    /// Carry out commands up to the first that is refused; the refusals are those of [`Page::step`]. The refused one has
-    /// changed nothing, and the ones before it have been carried out, each as by a step. An accepted record is in its
-    /// outcome, whatever its reader did after.
+    /// Carry out commands up to the first that is refused; the refusals are those of [`Page::step`]. The refused one
+    /// has changed nothing, and the ones before it have been carried out, each as by a step. An accepted record is in
+    /// its outcome, whatever its reader did after.
     pub fn run(&mut self, commands: &[Command]) -> Ran {
         let mut ran = Ran { done: 0, outcomes: Vec::new(), ending: Ok(()) };
         let mut bytes = Vec::new();

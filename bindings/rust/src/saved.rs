@@ -52,11 +52,12 @@ impl Page {
         bytes
     }
 
-    /// A page out of the bytes that [`Page::save`] gave: it goes on where it was. Other bytes are refused, or are a page
-    /// that a step can go on with: by [`Refusal::WrongLength`] if some are missing or too many, by
-    /// [`Refusal::BadFormat`] if a number of the format is outside its range or the first byte names another table, and
-    /// by [`Refusal::InvalidState`] if the page has a digit at or above its base or the writer or a reader a state that
-    /// no steps could hold. Nothing is promised of reads that go on from a state that was not the page's last one.
+    /// A page out of the bytes that [`Page::save`] gave: it goes on where it was. Some other bytes are a page too,
+    /// which goes on as if it had been saved. The rest are refused: by [`Refusal::WrongLength`] if bytes are missing or
+    /// too many, by [`Refusal::BadFormat`] if a number of the format is outside its range or the first byte names
+    /// another table, and by [`Refusal::InvalidState`] if a digit of the page is at or above its base or the writer or
+    /// a reader has a state that no steps could hold. Nothing is promised of reads that go on from a state that was not
+    /// the page's last one.
     ///
     /// ```
     /// use lagumtay::{Command, Count, Format, Layout, Page, Refusal};

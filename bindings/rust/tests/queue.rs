@@ -1,5 +1,5 @@
-//! The hand-over queue's bindings: what each step tells, the refusals that a caller can meet, and parcels that are given
-//! out whole and once.
+//! The hand-over queue's bindings: what each step tells, the refusals that a caller can meet, and parcels that are
+//! given out whole and once.
 use lagumtay::queue::QueueRefusal::*;
 use lagumtay::queue::{Queue, QueueRefusal, Received, Sent, Serial};
 

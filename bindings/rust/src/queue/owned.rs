@@ -108,7 +108,8 @@ impl Queue {
 
     /// The next step of the receiving. Refused by [`QueueRefusal::NothingPending`], and by [`QueueRefusal::QueueEmpty`]
     /// at the gathering's last digit: that step can be taken again, which reads this digit anew, or the receiving
-    /// cancelled. If the sender went on during the gathering, its other digits may be old: then cancel, and begin afresh.
+    /// cancelled. If the sender went on during the gathering, its other digits may be old: then cancel, and begin
+    /// afresh.
     pub fn receive_step(&mut self) -> Result<Received<'_>, QueueRefusal> {
         let raw::Receiver { serial, steps, .. } = self.receiver;
         let Queue { format, bases, queue, receiver, buffer, .. } = self;

@@ -1,14 +1,14 @@
 //! The queue's calls for a caller who owns the memory, as `include/lagumtay_queue.h` of the repository has them.
 //!
-//! A call answers 0, or the number of a [`QueueRefusal`]: [`QueueRefusal::from_number`] names it. Any call may be refused
-//! by [`QueueRefusal::BadFormat`] and [`QueueRefusal::WrongLength`], any but an opening also by
+//! A call answers 0, or the number of a [`QueueRefusal`]: [`QueueRefusal::from_number`] names it. Any call may be
+//! refused by [`QueueRefusal::BadFormat`] and [`QueueRefusal::WrongLength`], any but an opening also by
 //! [`QueueRefusal::InvalidState`]; a refused call changes nothing. Calls on one queue are made one after another. Three
 //! rules are left to the caller, which a [`Queue`](super::Queue) keeps by itself:
 //!
 //! - **The record at [`Sender::index`] stays as it was announced while [`Sender::kind`] is 1**, or a mixture of both is
 //!   sent. Between sendings each call may bring new records.
-//! - **A receiving has one buffer throughout.** It holds the parcel, whole, from the step that moved its last byte, step
-//!   m + n, until the next receiving moves a byte: take it before.
+//! - **A receiving has one buffer throughout.** It holds the parcel, whole, from the step that moved its last byte,
+//!   step m + n, until the next receiving moves a byte: take it before.
 //! - What the calls are lent stays as they left it, from [`Lent::open`] on, under the same format.
 #[cfg(doc)]
 use super::QueueRefusal;
@@ -170,8 +170,8 @@ impl Lent<'_> {
         unsafe { call!(lagumtay_queue_send_begin, self, as_ptr, sender, records.as_ptr(), records.len(), index) }
     }
 
-    /// `lagumtay_queue_send_step`: the next step of the sending. Refused by [`QueueRefusal::NothingPending`], and with the
-    /// gathering's last digit by [`QueueRefusal::QueueFull`]: that step can be taken again.
+    /// `lagumtay_queue_send_step`: the next step of the sending. Refused by [`QueueRefusal::NothingPending`], and with
+    /// the gathering's last digit by [`QueueRefusal::QueueFull`]: that step can be taken again.
     #[must_use = "it may be refused"]
     pub fn send_step(&mut self, sender: &mut Sender, records: &[u8]) -> u8 {
         unsafe { call!(lagumtay_queue_send_step, self, as_mut_ptr, sender, records.as_ptr(), records.len()) }

@@ -10,8 +10,8 @@ pub enum QueueRefusal {
     /// (2) A parcel has not n bytes. Over [`raw`](super::raw): a length differs from what the format asks for, or the
     /// lent records are no multiple of n.
     WrongLength = 2,
-    /// (3) Over [`raw`](super::raw) alone: a digit at or above its base, a state that no steps could hold, more received
-    /// than sent, or a pending sending whose record is not lent any more.
+    /// (3) Over [`raw`](super::raw) alone: a digit at or above its base, a state that no steps could hold, more
+    /// received than sent, or a pending sending whose record is not lent any more.
     InvalidState = 3,
     /// (6) This side has an act unfinished.
     Busy = 6,
@@ -40,8 +40,8 @@ impl QueueRefusal {
         QueueRefusal::QueueEmpty,
     ];
 
-    /// The refusal of this number, as a call of [`raw`](super::raw) answers it: none for 0, which says that the call was
-    /// carried out, and none for a number that no call answers.
+    /// The refusal of this number, as a call of [`raw`](super::raw) answers it: none for 0, which says that the call
+    /// was carried out, and none for a number that no call answers.
     pub fn from_number(number: u8) -> Option<QueueRefusal> {
         QueueRefusal::ALL.into_iter().find(|&why| why as u8 == number)
     }
