@@ -1,30 +1,52 @@
-/* Lagumtay's hand-over queue: parcels go from one sender to one receiver, without locks. The archive is
- * `liblagumtay_queue.a`. It needs no page and can be used beside one.
+/* Lagumtay's hand-over queue: parcels go from one sender to one receiver. The archive is `liblagumtay_queue.a`. It
+ * needs no page and can be used beside one.
+ *
+ * IT IS A MACHINE OF SINGLE STEPS. A sending and a receiving go over the queue one digit or byte at a time; each is a
+ * step that somebody calls for, and between two steps of one side the other may take its own. Neither side waits for
+ * the other to end: that is what "without locks" means here. It does not mean that calls may overlap. Calls on one
+ * queue are made one after another, and the library has no atomics and no locks in it. Who has several threads puts a
+ * mutex around each call, as examples/threads.c does with the steps of a page, or lets one thread own the queue.
  *
  * The rules for a caller: calls on one queue are made one after another, and nobody else touches what is lent during
  * one; each pointer goes with its length in elements, and is aligned for its type; what is lent to be written overlaps
  * nothing else that is lent. A pointer with length 0 is not followed.
  *
- * Every function is total: for any arguments that keep these rules it ends, touches nothing but what it is lent, and
- * answers 0 or the number of one refusal; a refused call changes nothing. What it answers and what it leaves is an
- * equation with definitions that can be read in the repository; the comments name them by their path.
+ * Every function of the archive is total: for any arguments that keep these rules it ends, touches nothing but what it
+ * is lent, and answers 0 or the number of one refusal; a refused call changes nothing. What it answers and what it
+ * leaves is an equation with definitions that can be read in the repository; the comments name them by their path.
  */
 #ifndef LAGUMTAY_QUEUE_H
 #define LAGUMTAY_QUEUE_H
 
-#include <assert.h>
-#include <stddef.h>
-#include <stdint.h>
+#include "lagumtay_base.h"
 
 #ifdef __cplusplus
 extern "C" {
 #endif
 
-/* The numbers of a queue but for the m bases, which are lent beside it: parcels of n bytes, so many places for them. m
- * is 1 to 8, every base 2 to 256, n 1 to 256, places 1 to 64. The queue's bytes are sent (m digits), received (m
- * digits), and the places (n bytes each), 2m + places * n in all. Both numbers have the same bases, and their leftmost
- * digit counts most; they tell how many parcels were sent and received. Parcel number i, from 0, goes to place
- * i mod places.
+/* The ranges of a queue's numbers: m places of a base each, parcels of n bytes, places for so many parcels. Each is at
+ * least 1, and a base at least 2.
+ * crates/queue/specs/Form.antt, `goodForm`. */
+enum {
+    LAGUMTAY_QUEUE_MAX_M = 8,
+    LAGUMTAY_QUEUE_MIN_BASE = 2,
+    LAGUMTAY_QUEUE_MAX_BASE = 256,
+    LAGUMTAY_QUEUE_MAX_N = 256,
+    LAGUMTAY_QUEUE_MAX_PLACES = 64
+};
+
+/* The kinds of either side's state: idle, or with an act, a sending or a receiving, that is not finished. */
+enum lagumtay_queue_kind { LAGUMTAY_QUEUE_IDLE = 0, LAGUMTAY_QUEUE_ACTS = 1 };
+
+/* The bytes of a queue; the steps of a sending or a receiving. Constants if the arguments are, each of which is
+ * evaluated once. */
+#define LAGUMTAY_QUEUE_LEN(m, places, n) (2 * (size_t)(m) + (size_t)(places) * (size_t)(n))
+#define LAGUMTAY_QUEUE_STEPS(m, n) (2 * (size_t)(m) + (size_t)(n))
+
+/* The numbers of a queue but for the m bases, which are lent beside it: parcels of n bytes, so many places for them.
+ * The constants above have the ranges. The queue's bytes are sent (m digits), received (m digits), and the places (n
+ * bytes each), 2m + places * n in all. Both numbers have the same bases, and their leftmost digit counts most; they
+ * tell how many parcels were sent and received. Parcel number i, from 0, goes to place i mod places.
  * crates/queue/specs/Form.antt, `goodForm`. */
 typedef struct {
     size_t n;
@@ -53,29 +75,6 @@ typedef struct {
     size_t kind;
     uint8_t digits[8];
 } lagumtay_queue_receiver;
-
-/* The archive was built with these sizes and offsets. */
-#ifdef __cplusplus
-#define LAGUMTAY_QUEUE_ASSERT(condition) static_assert(condition, #condition)
-#else
-#define LAGUMTAY_QUEUE_ASSERT(condition) _Static_assert(condition, #condition)
-#endif
-LAGUMTAY_QUEUE_ASSERT(sizeof(size_t) == 8);
-LAGUMTAY_QUEUE_ASSERT(sizeof(lagumtay_queue_format) == 16);
-LAGUMTAY_QUEUE_ASSERT(offsetof(lagumtay_queue_format, n) == 0);
-LAGUMTAY_QUEUE_ASSERT(offsetof(lagumtay_queue_format, places) == 8);
-LAGUMTAY_QUEUE_ASSERT(sizeof(lagumtay_queue_sender) == 40);
-LAGUMTAY_QUEUE_ASSERT(offsetof(lagumtay_queue_sender, serial) == 0);
-LAGUMTAY_QUEUE_ASSERT(offsetof(lagumtay_queue_sender, steps) == 8);
-LAGUMTAY_QUEUE_ASSERT(offsetof(lagumtay_queue_sender, kind) == 16);
-LAGUMTAY_QUEUE_ASSERT(offsetof(lagumtay_queue_sender, digits) == 24);
-LAGUMTAY_QUEUE_ASSERT(offsetof(lagumtay_queue_sender, index) == 32);
-LAGUMTAY_QUEUE_ASSERT(sizeof(lagumtay_queue_receiver) == 32);
-LAGUMTAY_QUEUE_ASSERT(offsetof(lagumtay_queue_receiver, serial) == 0);
-LAGUMTAY_QUEUE_ASSERT(offsetof(lagumtay_queue_receiver, steps) == 8);
-LAGUMTAY_QUEUE_ASSERT(offsetof(lagumtay_queue_receiver, kind) == 16);
-LAGUMTAY_QUEUE_ASSERT(offsetof(lagumtay_queue_receiver, digits) == 24);
-#undef LAGUMTAY_QUEUE_ASSERT
 
 /* The refusals, by the same numbers as those of a page. Checks go 1, 2, 3, 8, 6 or 7, 9, and at a gathering's last
  * digit 3 (the sender's), 13, 14; the first that applies is answered. */
@@ -149,6 +148,23 @@ uint8_t lagumtay_queue_receive_cancel(const lagumtay_queue_format *format, const
                                       const uint8_t *queue, size_t queue_len, lagumtay_queue_receiver *receiver,
                                       const uint8_t *buffer, size_t buffer_len);
 
+/* A HELPER, which is C and not proved: a refusal as text, for any number. */
+static inline const char *lagumtay_queue_refusal_text(uint8_t refusal) {
+    switch (refusal) {
+    case LAGUMTAY_QUEUE_OK: return "not refused";
+    case LAGUMTAY_QUEUE_BAD_FORMAT: return "a number of the format is outside its range";
+    case LAGUMTAY_QUEUE_WRONG_LENGTH: return "a length differs from the format, or the records are no multiple of n";
+    case LAGUMTAY_QUEUE_INVALID_STATE: return "a digit at or above its base, or a state that no steps could hold";
+    case LAGUMTAY_QUEUE_BUSY: return "this side has an act unfinished";
+    case LAGUMTAY_QUEUE_NOTHING_PENDING: return "a step or cancel with none to do, or a cancel after a byte was moved";
+    case LAGUMTAY_QUEUE_NO_SUCH: return "a record beyond the last";
+    case LAGUMTAY_QUEUE_SERIALS_EXHAUSTED: return "the number sent stands at its top";
+    case LAGUMTAY_QUEUE_FULL: return "the queue is full";
+    case LAGUMTAY_QUEUE_EMPTY: return "the queue is empty";
+    default: return "no number of a refusal";
+    }
+}
+
 /* WHAT IS PROMISED over all calls from an accepted opening, the steps of both sides mixed freely, with the same format,
  * nobody else writing what is lent, no two calls at once, and records and buffer as said above. A parcel counts as put
  * in, or as copied out, with its last byte.
@@ -163,6 +179,22 @@ uint8_t lagumtay_queue_receive_cancel(const lagumtay_queue_format *format, const
 
 /* No call is refused by 3 while a pending sending finds a record at its index: such an answer says that something that
  * was lent has been written by somebody else. */
+
+/* The archive was built with these sizes and offsets. */
+LAGUMTAY_ASSERT(sizeof(lagumtay_queue_format) == 16);
+LAGUMTAY_ASSERT_AT(lagumtay_queue_format, n, 0);
+LAGUMTAY_ASSERT_AT(lagumtay_queue_format, places, 8);
+LAGUMTAY_ASSERT(sizeof(lagumtay_queue_sender) == 40);
+LAGUMTAY_ASSERT_AT(lagumtay_queue_sender, serial, 0);
+LAGUMTAY_ASSERT_AT(lagumtay_queue_sender, steps, 8);
+LAGUMTAY_ASSERT_AT(lagumtay_queue_sender, kind, 16);
+LAGUMTAY_ASSERT_AT(lagumtay_queue_sender, digits, 24);
+LAGUMTAY_ASSERT_AT(lagumtay_queue_sender, index, 32);
+LAGUMTAY_ASSERT(sizeof(lagumtay_queue_receiver) == 32);
+LAGUMTAY_ASSERT_AT(lagumtay_queue_receiver, serial, 0);
+LAGUMTAY_ASSERT_AT(lagumtay_queue_receiver, steps, 8);
+LAGUMTAY_ASSERT_AT(lagumtay_queue_receiver, kind, 16);
+LAGUMTAY_ASSERT_AT(lagumtay_queue_receiver, digits, 24);
 
 #ifdef __cplusplus
 }
