@@ -3,10 +3,7 @@
  *
  *     cc -std=c11 -Iinclude tests/empty.c target/staticlib/liblagumtay.a -o target/empty && target/empty
  */
-#include <stdio.h>
-#include <stdlib.h>
-#include <string.h>
-
+#include "check.h"
 #include "lagumtay.h"
 
 enum { M = 2, Q = 1, N = 4, READERS = 2, PAGE = 2 * M + 2 * Q + N };
@@ -31,15 +28,6 @@ struct lengths {
 
 static const struct lengths right = {M, PAGE, READERS, READERS * N, N, READERS * 28};
 static struct lent lent;
-static int checks;
-
-static void check(int good, const char *call, const char *what) {
-    checks++;
-    if (!good) {
-        printf("wrong: %s, %s\n", call, what);
-        exit(1);
-    }
-}
 
 #define LIST(list, length) ((length) < 0 ? NULL : (list)), ((length) < 0 ? 0 : (size_t)(length))
 
@@ -57,8 +45,8 @@ static uint8_t run(struct lengths l) {
                                LIST(lent.record, l.record), commands, sizeof commands, lent.log, sizeof lent.log,
                                &answer);
     if (why <= LAGUMTAY_INVALID_STATE)
-        check(answer.done == 0 && answer.written == 0 && answer.taken == 0, "run",
-              "a run refused at its start answers zeros");
+        check_at(answer.done == 0 && answer.written == 0 && answer.taken == 0, "run",
+                 "a run refused at its start answers zeros");
     return why;
 }
 
@@ -69,9 +57,9 @@ static uint8_t step(struct lengths l) {
     uint8_t why = lagumtay_step(&lent.format, LIST(lent.bases, l.bases), LIST(lent.page, l.page), &lent.writer,
                                 LIST(lent.readers, l.readers), LIST(lent.buffers, l.buffers),
                                 LIST(lent.record, l.record), &command, &outcome);
-    check(outcome.kind == 0 && outcome.reader == 0 && outcome.attempts == 0 && outcome.choice == 0
-              && outcome.version == 0 && outcome.count == 0 && outcome.low == 0 && outcome.high == 0, "step",
-          "a step that ends no read tells zeros");
+    check_at(outcome.kind == 0 && outcome.reader == 0 && outcome.attempts == 0 && outcome.choice == 0
+                 && outcome.version == 0 && outcome.count == 0 && outcome.low == 0 && outcome.high == 0, "step",
+             "a step that ends no read tells zeros");
     return why;
 }
 
@@ -92,9 +80,10 @@ static uint8_t unpack(struct lengths l) {
 /* Commands with so much room in the log; what they answer must be the refusal or 0, and what is written. */
 static void logged(const uint8_t *commands, size_t length, int room, uint8_t why, size_t written, const char *what) {
     lagumtay_answer answer = {9, 9, 9};
-    check(lagumtay_run(&lent.format, lent.bases, M, lent.page, PAGE, &lent.writer, lent.readers, READERS, lent.buffers,
-                       READERS * N, NULL, 0, commands, length, LIST(lent.log, room), &answer) == why, "run", what);
-    check(answer.written == written, "run", what);
+    check_at(lagumtay_run(&lent.format, lent.bases, M, lent.page, PAGE, &lent.writer, lent.readers, READERS,
+                          lent.buffers, READERS * N, NULL, 0, commands, length, LIST(lent.log, room), &answer) == why,
+             "run", what);
+    check_at(answer.written == written, "run", what);
 }
 
 /* The last step of reader 0's count read makes an entry of this size: any room below it is too little, it is enough. */
@@ -103,7 +92,7 @@ static void room_for(int size, const char *what) {
     struct lent before = lent;
     for (int room = -1; room < size; room++) {
         logged(last, sizeof last, room, LAGUMTAY_LOG_FULL, 0, what);
-        check(memcmp(&before, &lent, sizeof lent) == 0, "run", "a step without room has changed something");
+        check_at(memcmp(&before, &lent, sizeof lent) == 0, "run", "a step without room has changed something");
     }
     logged(last, sizeof last, size, LAGUMTAY_OK, size, what);
 }
@@ -113,7 +102,7 @@ static void room_for(int size, const char *what) {
 static void rooms(uint8_t begin) {
     const uint8_t reading[] = {begin, 0, 6, 0, 6, 0}, step[] = {6, 0};
     static const uint8_t writing[] = {1, 0, 0, 0, 0, 0, 0, 0, 6, 3, 3, 3, 3};
-    check(opening(right) == LAGUMTAY_OK, "open", "for the logs");
+    check_at(opening(right) == LAGUMTAY_OK, "open", "for the logs");
     logged(reading, sizeof reading, -1, LAGUMTAY_OK, 0, "a read without a log");
     logged(step, sizeof step, -1, LAGUMTAY_OK, 0, "a read without a log");
     room_for(10, "a count shown");
@@ -128,7 +117,7 @@ static void rooms(uint8_t begin) {
 static void padding(const char *call) {
     for (size_t r = 0; r < READERS; r++)
         for (size_t k = offsetof(lagumtay_reader, choice) + 1; k < offsetof(lagumtay_reader, steps); k++)
-            check(((const uint8_t *)&lent.readers[r])[k] == 0xaa, call, "padding is touched");
+            check_at(((const uint8_t *)&lent.readers[r])[k] == 0xaa, call, "padding is touched");
 }
 
 /* Each length of the call, from the first on and before the last, in turn is none, one less and one more. */
@@ -143,8 +132,8 @@ static void lengths_of(const char *call, uint8_t (*answer)(struct lengths), int 
              * 0, is none. */
             int bad_format = which == 0 && change != 1;
             struct lent before = lent;
-            check(answer(l) == (bad_format ? LAGUMTAY_BAD_FORMAT : LAGUMTAY_WRONG_LENGTH), call, names[which]);
-            check(memcmp(&before, &lent, sizeof lent) == 0, call, "a refused call has changed something");
+            check_at(answer(l) == (bad_format ? LAGUMTAY_BAD_FORMAT : LAGUMTAY_WRONG_LENGTH), call, names[which]);
+            check_at(memcmp(&before, &lent, sizeof lent) == 0, call, "a refused call has changed something");
         }
 }
 
@@ -157,48 +146,47 @@ int main(void) {
     memset(lent.readers, 0xaa, sizeof lent.readers);
 
     lengths_of("open", opening, 0, 5);
-    check(opening(right) == LAGUMTAY_OK, "open", "the right lengths");
+    check_at(opening(right) == LAGUMTAY_OK, "open", "the right lengths");
     padding("open");
 
     /* Records may be none; then there is none to write. */
     lengths_of("run", run, 0, 4);
     struct lengths cut = right;
     cut.record = N - 1;
-    check(run(cut) == LAGUMTAY_WRONG_LENGTH, "run", "records that end in the middle");
+    check_at(run(cut) == LAGUMTAY_WRONG_LENGTH, "run", "records that end in the middle");
     cut.record = -1;
-    check(run(cut) == LAGUMTAY_NOTHING_PENDING, "run", "no records");
-    check(lent.readers[0].kind == 1, "run", "the command before the refused one is carried out");
+    check_at(run(cut) == LAGUMTAY_NOTHING_PENDING, "run", "no records");
+    check_at(lent.readers[0].kind == 1, "run", "the command before the refused one is carried out");
     padding("run");
 
     lengths_of("step", step, 0, 4);
     cut.record = N - 1;
-    check(step(cut) == LAGUMTAY_WRONG_LENGTH, "step", "records that end in the middle");
+    check_at(step(cut) == LAGUMTAY_WRONG_LENGTH, "step", "records that end in the middle");
     cut.record = -1;
-    check(step(cut) == LAGUMTAY_OK, "step", "no records");
-    check(lent.readers[0].steps == 1, "step", "a step is carried out");
+    check_at(step(cut) == LAGUMTAY_OK, "step", "no records");
+    check_at(lent.readers[0].steps == 1, "step", "a step is carried out");
     padding("step");
 
     lengths_of("cancel", cancel, 0, 4);
-    check(cancel(right) == LAGUMTAY_NOTHING_PENDING, "cancel", "nothing to cancel");
+    check_at(cancel(right) == LAGUMTAY_NOTHING_PENDING, "cancel", "nothing to cancel");
     padding("cancel");
 
     lengths_of("pack", pack, 2, 3);
     lengths_of("pack", pack, 5, 6);
-    check(pack(right) == LAGUMTAY_OK, "pack", "the right lengths");
-    check(lent.packed[0] == 1 && lent.packed[3] == 0 && lent.packed[11] == 1 && lent.packed[28] == 0, "pack",
-          "the states");
+    check_at(pack(right) == LAGUMTAY_OK, "pack", "the right lengths");
+    check_at(lent.packed[0] == 1 && lent.packed[3] == 0 && lent.packed[11] == 1 && lent.packed[28] == 0, "pack",
+             "the states");
     lengths_of("unpack", unpack, 2, 3);
     lengths_of("unpack", unpack, 5, 6);
     lent.packed[3] = LAGUMTAY_HIGH;
     lent.packed[11] = 2;
-    check(unpack(right) == LAGUMTAY_OK, "unpack", "the right lengths");
-    check(lent.readers[0].kind == 1 && lent.readers[0].choice == LAGUMTAY_HIGH && lent.readers[0].steps == 2, "unpack",
-          "the states");
+    check_at(unpack(right) == LAGUMTAY_OK, "unpack", "the right lengths");
+    check_at(lent.readers[0].kind == 1 && lent.readers[0].choice == LAGUMTAY_HIGH && lent.readers[0].steps == 2,
+             "unpack", "the states");
     padding("unpack");
     const struct lengths none = {-1, -1, -1, -1, -1, -1};
-    check(pack(none) == LAGUMTAY_OK && unpack(none) == LAGUMTAY_OK, "pack", "no states in no bytes");
+    check_at(pack(none) == LAGUMTAY_OK && unpack(none) == LAGUMTAY_OK, "pack", "no states in no bytes");
     rooms(4);
     rooms(0x0D);
-    printf("%d checks passed\n", checks);
-    return 0;
+    return all_passed();
 }

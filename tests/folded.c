@@ -3,10 +3,7 @@
  *
  *     cc -std=c11 -Iinclude tests/folded.c target/staticlib/liblagumtay.a -o target/folded && target/folded
  */
-#include <stdio.h>
-#include <stdlib.h>
-#include <string.h>
-
+#include "check.h"
 #include "lagumtay.h"
 
 enum { Q = 1, N = 2, READERS = 2, MOST_M = 8, MOST_PAGE = 2 * MOST_M + 2 * Q + N };
@@ -23,15 +20,6 @@ static struct memory {
     lagumtay_reader readers[READERS];
     uint8_t buffers[READERS * N];
 } lent;
-static int checks;
-
-static void check(int good, const char *what) {
-    checks++;
-    if (!good) {
-        printf("wrong: %s, m = %zu\n", what, m);
-        exit(1);
-    }
-}
 
 static size_t folded_length(void) {
     return 2 * m - 1 + 2 * Q + N;
@@ -70,6 +58,7 @@ static void quiet(uint8_t kind, uint64_t count, int times, const char *what) {
 /* A fresh folded page with so many places of one base. */
 static void open_with(size_t places, uint16_t base, uint64_t count) {
     m = places;
+    snprintf(place, sizeof place, "m = %zu", m);
     for (size_t i = 0; i < m; i++)
         bases[i] = base;
     memset(lent.page, 0xee, sizeof lent.page);
@@ -309,6 +298,5 @@ int main(void) {
     going_back(1, 10, 5);
     going_back(2, 60, 717);
     going_back(8, 256, UINT64_MAX);
-    printf("%d checks passed\n", checks);
-    return 0;
+    return all_passed();
 }

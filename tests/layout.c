@@ -4,10 +4,7 @@
  *
  * The header asserts the C side; here each field gets a value of its own, and its bytes must be where the archive looks.
  */
-#include <stdio.h>
-#include <stdlib.h>
-#include <string.h>
-
+#include "check.h"
 #include "lagumtay.h"
 
 enum { M = 3, Q = 2, N = 5, READERS = 3 };
@@ -17,25 +14,6 @@ static _Alignas(8) uint8_t format[32], writer[32], readers[READERS * 32], answer
 static _Alignas(8) uint8_t command[16], outcome[32];
 static const uint16_t bases[M] = {7, 8, 9};
 static uint8_t page[2 * M + 2 * Q + N], buffers[READERS * N], records[3 * N], log_bytes[20];
-static int checks;
-
-static void check(int good, const char *what) {
-    checks++;
-    if (!good) {
-        printf("wrong: %s\n", what);
-        exit(1);
-    }
-}
-
-static uint64_t at(const uint8_t *bytes, size_t offset, size_t size) {
-    uint64_t x = 0;
-    memcpy(&x, bytes + offset, size); /* low byte first, as on every machine that the archive is built for */
-    return x;
-}
-
-static void put(uint8_t *bytes, size_t offset, uint64_t x, size_t size) {
-    memcpy(bytes + offset, &x, size);
-}
 
 static uint8_t opening(void) {
     static const uint8_t record[N] = "abcde";
@@ -415,6 +393,5 @@ int main(void) {
     parting(4, LAGUMTAY_LOW);
     parting(0x0D, LAGUMTAY_HIGH);
     packing();
-    printf("%d checks passed\n", checks);
-    return 0;
+    return all_passed();
 }

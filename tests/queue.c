@@ -3,10 +3,7 @@
  *
  *     cc -std=c11 -Iinclude tests/queue.c target/staticlib/liblagumtay_queue.a -o target/test && target/test
  */
-#include <stdio.h>
-#include <stdlib.h>
-#include <string.h>
-
+#include "check.h"
 #include "lagumtay.h" /* both headers can be used in one file */
 #include "lagumtay_queue.h"
 
@@ -32,24 +29,14 @@ struct lengths {
     size_t bases, queue, records, buffer;
 };
 static const struct lengths right = {M, QUEUE, RECORDS, N};
-static int checks;
 
-static void check(int good, const char *what) {
-    checks++;
-    if (!good) {
-        printf("wrong: %s\n", what);
-        exit(1);
-    }
+/* All fields but the digits have 8 bytes. */
+static uint64_t word(const uint8_t *bytes, size_t offset) {
+    return at(bytes, offset, 8);
 }
 
-static uint64_t at(const uint8_t *bytes, size_t offset) {
-    uint64_t x;
-    memcpy(&x, bytes + offset, sizeof x); /* low byte first, as on every machine that the archive is built for */
-    return x;
-}
-
-static void put(uint8_t *bytes, size_t offset, uint64_t x) {
-    memcpy(bytes + offset, &x, sizeof x);
+static void put_word(uint8_t *bytes, size_t offset, uint64_t x) {
+    put(bytes, offset, x, 8);
 }
 
 /* A pointer that goes with length 0 is not followed. */
@@ -120,8 +107,8 @@ static void steps(uint8_t (*step)(struct lengths), int times) {
 
 static void open_over_garbage(void) {
     memset(&lent, 0xaa, sizeof lent);
-    put(lent.format, 0, N);
-    put(lent.format, 8, PLACES);
+    put_word(lent.format, 0, N);
+    put_word(lent.format, 8, PLACES);
     check(opening(right) == LAGUMTAY_QUEUE_OK, "the opening is refused");
     static const struct memory zero;
     check(memcmp(lent.queue, zero.queue, QUEUE) == 0, "the queue that was opened");
@@ -147,28 +134,30 @@ static void hand_over(void) {
     open_over_garbage();
     numbers(59, 59);
     check(send_begin(right) == LAGUMTAY_QUEUE_OK, "a sending begins");
-    check(at(lent.sender, SERIAL) == 59 && at(lent.sender, KIND) == 1 && at(lent.sender, INDEX) == 1, "its fields");
+    check(word(lent.sender, SERIAL) == 59 && word(lent.sender, KIND) == 1 && word(lent.sender, INDEX) == 1,
+          "its fields");
     for (int step = 1; step <= STEPS; step++) {
         steps(send_step, 1);
-        check(at(lent.sender, STEPS_TAKEN) == (step < STEPS ? (uint64_t)step : 0), "sender.steps");
+        check(word(lent.sender, STEPS_TAKEN) == (step < STEPS ? (uint64_t)step : 0), "sender.steps");
         for (int byte = 0; byte < N; byte++)
             check(lent.queue[2 * M + N + byte] == (step > M + byte ? records[N + byte] : 0), "a byte is put in");
         number_is(0, step <= M + N ? 59 : step == M + N + 1 ? 0 : 60, "sent is written right to left");
     }
     number_is(M, 59, "the sender does not write received");
-    check(at(lent.sender, KIND) == 0 && at(lent.sender, SERIAL) == 0 && at(lent.sender, INDEX) == 0, "an idle sender");
+    check(word(lent.sender, KIND) == 0 && word(lent.sender, SERIAL) == 0 && word(lent.sender, INDEX) == 0,
+          "an idle sender");
 
     check(receive_begin(right) == LAGUMTAY_QUEUE_OK, "a receiving begins");
-    check(at(lent.receiver, SERIAL) == 59 && at(lent.receiver, KIND) == 1, "its fields");
+    check(word(lent.receiver, SERIAL) == 59 && word(lent.receiver, KIND) == 1, "its fields");
     for (int step = 1; step <= STEPS; step++) {
         steps(receive_step, 1);
-        check(at(lent.receiver, STEPS_TAKEN) == (step < STEPS ? (uint64_t)step : 0), "receiver.steps");
+        check(word(lent.receiver, STEPS_TAKEN) == (step < STEPS ? (uint64_t)step : 0), "receiver.steps");
         check(lent.receiver[DIGITS] == (step == 1), "receiver.digits: kept until the last one is gathered");
         for (int byte = 0; byte < N; byte++)
             check(lent.buffer[byte] == (step > M + byte ? records[N + byte] : 0xaa), "a byte is copied out");
         number_is(M, step <= M + N ? 59 : step == M + N + 1 ? 0 : 60, "received is written right to left");
     }
-    check(at(lent.receiver, KIND) == 0 && at(lent.receiver, SERIAL) == 0, "an idle receiver");
+    check(word(lent.receiver, KIND) == 0 && word(lent.receiver, SERIAL) == 0, "an idle receiver");
     check(lent.queue[QUEUE] == 0xaa && lent.buffer[N] == 0xaa, "a byte behind what is lent");
 }
 
@@ -243,7 +232,7 @@ static void acts(void) {
     for (int taken = 0; taken < STEPS; taken++) {
         struct memory before = lent;
         if (taken <= M) {
-            check(send_cancel(right) == LAGUMTAY_QUEUE_OK && at(lent.sender, KIND) == 0, "a cancel before any byte");
+            check(send_cancel(right) == LAGUMTAY_QUEUE_OK && word(lent.sender, KIND) == 0, "a cancel before any byte");
             lent = before;
         } else
             is_refused("send_cancel", LAGUMTAY_QUEUE_NOTHING_PENDING, "a cancel after a byte is moved");
@@ -299,6 +288,5 @@ int main(void) {
     lengths();
     acts();
     gatherings();
-    printf("%d checks passed\n", checks);
-    return 0;
+    return all_passed();
 }
