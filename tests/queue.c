@@ -1,5 +1,5 @@
 /* The hand-over queue: where the archive finds and puts the fields of its structs, every length, a whole hand-over step
- * by step, and gatherings that meet the other side.
+ * by step, gatherings that meet the other side, and the header's constants and texts.
  *
  *     cc -std=c11 -Iinclude tests/queue.c target/staticlib/liblagumtay_queue.a -o target/test && target/test
  */
@@ -280,6 +280,71 @@ static void gatherings(void) {
     is_refused("receive_step", LAGUMTAY_QUEUE_EMPTY, "less sent than received");
 }
 
+/* Open a queue of any numbers, which are in their ranges or one beyond, with so many bytes. */
+static uint8_t opens(size_t m, size_t places, size_t n, uint16_t base, size_t len) {
+    static uint8_t bytes[LAGUMTAY_QUEUE_LEN(LAGUMTAY_QUEUE_MAX_M + 1, LAGUMTAY_QUEUE_MAX_PLACES + 1,
+                                            LAGUMTAY_QUEUE_MAX_N + 1)];
+    const lagumtay_queue_format format = {.n = n, .places = places};
+    uint16_t all[LAGUMTAY_QUEUE_MAX_M + 1];
+    for (size_t i = 0; i < LAGUMTAY_QUEUE_MAX_M + 1; i++)
+        all[i] = base;
+    snprintf(place, sizeof place, "m %zu, %zu places, n %zu, base %u, %zu bytes", m, places, n, base, len);
+    return lagumtay_queue_open(&format, all, m, bytes, len, SENDER, RECEIVER);
+}
+
+/* The right length is accepted and one more or less is not, or the numbers are refused. */
+static void opening_is(size_t m, size_t places, size_t n, uint16_t base, uint8_t why) {
+    const size_t right_len = LAGUMTAY_QUEUE_LEN(m, places, n);
+    check(opens(m, places, n, base, right_len) == why, "the opening");
+    if (why == LAGUMTAY_QUEUE_OK) {
+        check(opens(m, places, n, base, right_len - 1) == LAGUMTAY_QUEUE_WRONG_LENGTH, "a byte too few");
+        check(opens(m, places, n, base, right_len + 1) == LAGUMTAY_QUEUE_WRONG_LENGTH, "a byte too many");
+    }
+}
+
+static void constants(void) {
+    const size_t m = LAGUMTAY_QUEUE_MAX_M, places = LAGUMTAY_QUEUE_MAX_PLACES, n = LAGUMTAY_QUEUE_MAX_N;
+    opening_is(1, 1, 1, LAGUMTAY_QUEUE_MIN_BASE, LAGUMTAY_QUEUE_OK);
+    opening_is(m, 1, 1, LAGUMTAY_QUEUE_MAX_BASE, LAGUMTAY_QUEUE_OK);
+    opening_is(1, places, 3, LAGUMTAY_QUEUE_MAX_BASE, LAGUMTAY_QUEUE_OK);
+    opening_is(2, 3, n, LAGUMTAY_QUEUE_MAX_BASE, LAGUMTAY_QUEUE_OK);
+    opening_is(m + 1, 1, 1, 10, LAGUMTAY_QUEUE_BAD_FORMAT);
+    opening_is(1, 0, 1, 10, LAGUMTAY_QUEUE_BAD_FORMAT);
+    opening_is(1, places + 1, 1, 10, LAGUMTAY_QUEUE_BAD_FORMAT);
+    opening_is(1, 1, 0, 10, LAGUMTAY_QUEUE_BAD_FORMAT);
+    opening_is(1, 1, n + 1, 10, LAGUMTAY_QUEUE_BAD_FORMAT);
+    opening_is(1, 1, 1, LAGUMTAY_QUEUE_MIN_BASE - 1, LAGUMTAY_QUEUE_BAD_FORMAT);
+    opening_is(1, 1, 1, LAGUMTAY_QUEUE_MAX_BASE + 1, LAGUMTAY_QUEUE_BAD_FORMAT);
+    strcpy(place, "");
+    check(2 * LAGUMTAY_QUEUE_LEN(1 + 1, 1 + 1, 1 + 2) == 20 && 2 * LAGUMTAY_QUEUE_STEPS(1 + 1, 1 + 2) == 14, "sums");
+
+    /* Both sides have as many steps as the constant says, and their kinds tell. */
+    open_over_garbage();
+    check(send_begin(right) == LAGUMTAY_QUEUE_OK, "a sending begins");
+    steps(send_step, LAGUMTAY_QUEUE_STEPS(M, N) - 1);
+    check(word(lent.sender, KIND) == LAGUMTAY_QUEUE_ACTS, "a sending with one step to come");
+    steps(send_step, 1);
+    check(word(lent.sender, KIND) == LAGUMTAY_QUEUE_IDLE, "a sending that has ended");
+    check(receive_begin(right) == LAGUMTAY_QUEUE_OK, "a receiving begins");
+    steps(receive_step, LAGUMTAY_QUEUE_STEPS(M, N) - 1);
+    check(word(lent.receiver, KIND) == LAGUMTAY_QUEUE_ACTS, "a receiving with one step to come");
+    steps(receive_step, 1);
+    check(word(lent.receiver, KIND) == LAGUMTAY_QUEUE_IDLE, "a receiving that has ended");
+}
+
+/* Every refusal of a queue has a text of its own, and all other numbers have one. */
+static void texts(void) {
+    const char *unknown = lagumtay_queue_refusal_text(255);
+    for (unsigned i = 0; i < 256; i++) {
+        const char *text = lagumtay_queue_refusal_text((uint8_t)i);
+        int known = i <= 3 || (i >= 6 && i <= 9) || i == 13 || i == 14;
+        check(text != NULL && strlen(text) > 5, "a refusal's text");
+        check((strcmp(text, unknown) != 0) == known, "which numbers are refusals");
+        for (unsigned k = 0; known && k < i; k++)
+            check(strcmp(text, lagumtay_queue_refusal_text((uint8_t)k)) != 0, "texts that are the same");
+    }
+}
+
 int main(void) {
     check(sizeof(lagumtay_queue_sender) == sizeof lent.sender, "the sender's size");
     check(sizeof(lagumtay_queue_receiver) == sizeof lent.receiver, "the receiver's size");
@@ -288,5 +353,7 @@ int main(void) {
     lengths();
     acts();
     gatherings();
+    constants();
+    texts();
     return all_passed();
 }
