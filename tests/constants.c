@@ -91,8 +91,9 @@ static void macros(void) {
     static uint8_t sized[LAGUMTAY_PAGE_LEN(LAGUMTAY_FOLDED, 3, 2, 5)], log[LAGUMTAY_LOG_LEN(3)];
     enum { STEPS = LAGUMTAY_COUNT_STEPS(LAGUMTAY_PLAIN, 3), OTHERS = LAGUMTAY_RECORD_STEPS(2, 5) };
     check(sizeof sized == 14 && sizeof log == 54 && STEPS == 6 && OTHERS == 9, "sizes by macros");
-    check(2 * LAGUMTAY_PAGE_LEN(LAGUMTAY_PLAIN, 1 + 2, 1 + 1, 2 + 3) == 30, "sums as arguments");
-    check(2 * LAGUMTAY_COUNT_STEPS(LAGUMTAY_FOLDED, 1 + 2) == 10 && 2 * LAGUMTAY_LOG_LEN(1 + 2) == 108, "the same");
+    check(2 * LAGUMTAY_PAGE_LEN(LAGUMTAY_PLAIN, 1 + 2, 1 + 1, 1 | 4) == 30, "any expression as an argument");
+    check(2 * LAGUMTAY_COUNT_STEPS(LAGUMTAY_FOLDED, 1 + 2) == 10, "any expression as an argument");
+    check(2 * LAGUMTAY_LOG_LEN(1 + 2) == 108, "any expression as an argument");
     size_t layout = LAGUMTAY_FOLDED, m = 3, q = 2, n = 5, steps = 3;
     check(LAGUMTAY_PAGE_LEN(layout++, m++, q++, n++) == 14 && LAGUMTAY_LOG_LEN(steps++) == 54, "variables");
     check(layout == 2 && m == 4 && q == 3 && n == 6 && steps == 4, "each argument is evaluated once");

@@ -316,7 +316,8 @@ static void constants(void) {
     opening_is(1, 1, 1, LAGUMTAY_QUEUE_MIN_BASE - 1, LAGUMTAY_QUEUE_BAD_FORMAT);
     opening_is(1, 1, 1, LAGUMTAY_QUEUE_MAX_BASE + 1, LAGUMTAY_QUEUE_BAD_FORMAT);
     strcpy(place, "");
-    check(2 * LAGUMTAY_QUEUE_LEN(1 + 1, 1 + 1, 1 + 2) == 20 && 2 * LAGUMTAY_QUEUE_STEPS(1 + 1, 1 + 2) == 14, "sums");
+    check(2 * LAGUMTAY_QUEUE_LEN(1 + 1, 1 + 1, 1 + 2) == 20, "any expression as an argument");
+    check(2 * LAGUMTAY_QUEUE_STEPS(1 + 1, 1 | 5) == 18, "any expression as an argument");
 
     /* Both sides have as many steps as the constant says, and their kinds tell. */
     open_over_garbage();
