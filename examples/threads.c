@@ -52,7 +52,7 @@ static void note_count(const lagumtay_writer *before) {
         written = before->count;
 }
 
-/* One step, alone on the page: nothing that is lent is looked at without the mutex. */
+/* One step, alone on the page: what steps may change is looked at only under the mutex. */
 static struct seen step(lagumtay_command command) {
     struct seen seen;
     pthread_mutex_lock(&mutex);

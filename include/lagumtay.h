@@ -302,10 +302,10 @@ uint8_t lagumtay_pack(const lagumtay_reader *readers, size_t readers_len, uint8_
 uint8_t lagumtay_unpack(lagumtay_reader *readers, size_t readers_len, const uint8_t *bytes, size_t bytes_len);
 
 /* WHAT IS PROMISED over all runs from an accepted opening, with the same format, nobody else writing what is lent, no
- * two calls at once, and records changed only as said at lagumtay_run. CHANGE NO LENT RECORD WHILE IT IS WRITTEN: the
- * library cannot see it, and a record write that is begun from one record and ended from another is read, accepted, as
- * a mixture of both. All of it is one theorem: crates/protocol/specs/Demand.antt, `GeneralClaim`; over one list of
- * records throughout, `Claim`. A step counts as the run of its one command with a log that has room:
+ * two calls at once, and records changed only as said at lagumtay_run. CHANGE NO LENT RECORD WHILE ITS WRITE IS
+ * PENDING: the library cannot see it, and a write that is begun from one record and ended from another is read, and
+ * accepted, as a mixture of both. All of it is one theorem: crates/protocol/specs/Demand.antt, `GeneralClaim`; over one
+ * list of records throughout, `Claim`. A step counts as the run of its one command with a log that has room:
  * crates/page/specs/Calls.antt, `CarriesStep`, in the contract of lagumtay_step. */
 
 /* Every finished count read ends with equal copies or between two counts. A read's span goes from the last count fully
