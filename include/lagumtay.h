@@ -12,7 +12,7 @@
  *         memcpy(record, buffers + outcome.reader * n, n);
  *     pthread_mutex_unlock(&mutex);
  *
- * or lets one thread own the page and take commands from a queue.
+ * or lets one thread own the page and carry out commands that the others hand it.
  *
  * The rules for a caller: calls on one page are made one after another, and nobody else touches what is lent during
  * one; each pointer goes with its length in elements, and is aligned for its type; what is lent to be written overlaps
