@@ -90,4 +90,4 @@ built:
 	done
 
 clean:
-	rm -rf target bindings/rust/target bench/target
+	rm -rf target bindings/rust/target bench/target tests/no_std/target
