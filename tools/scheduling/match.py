@@ -29,7 +29,7 @@ def expected(forms, place):
         if part is None:
             told = "the end of the line, or `x` and a number"
         elif part.startswith("<"):
-            told = "%s (0 to %d)" % (part[1:-1], most(part[1:-1]))
+            told = "a number (%s, 0 to %d)" % (part[1:-1], most(part[1:-1]))
         else:
             told = "`%s`" % part
         if told not in found:

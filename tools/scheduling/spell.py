@@ -2,8 +2,8 @@
 
 import re
 
-from .lines import (FIRST_RECORD, HEADER, KINDS, LEND, LENGTH, MOST_REPEATS, RAW, WIDTHS, Problem, is_number, number, packed,
-                    start)
+from .lines import (FIRST_RECORD, HEADER, KINDS, LEND, LENGTH, MOST_REPEATS, RAW, WIDTHS, Problem, is_number, number,
+                    packed, start)
 from .match import form_of
 
 TOKEN = re.compile(r'\s+|#.*|("[^"]*"|[^\s"#]+)')
@@ -70,11 +70,11 @@ def spelled(form, words):
 
 
 class Spelling:
-    """A schedule on its way from words to bytes. The header's lines come in the order of their bytes; `bytes` before the
-    header is whole stand for the rest of it."""
+    """A schedule on its way from words to bytes. The header's lines come in the order of their bytes; `bytes` before it
+    is whole stand for the rest of it."""
 
     def __init__(self):
-        self.header, self.lent, self.commands = b"", [], b""
+        self.header, self.lent, self.commands = b"", [], bytearray()
         self.lines = {}  # the header's lines, and where they stand
         self.raw = self.begun = False  # whether bytes stand for the rest of the header; whether its lines are over
         self.length = None  # of a record
@@ -132,7 +132,7 @@ class Spelling:
 
     def bytes(self):
         lent = b"" if self.raw else len(self.lent).to_bytes(2, "big") + b"".join(self.lent)
-        return self.header + lent + self.commands
+        return self.header + lent + bytes(self.commands)
 
 
 def bytes_of(text, name):

@@ -3,8 +3,8 @@
 from collections import namedtuple
 from itertools import groupby
 
-from .lines import (BASES, COMMANDS, FIRST_COUNT, FIRST_RECORD, LEND, LENGTH, MOST_REPEATS, RAW, READERS, VERSION, WIDTHS,
-                    fields, start, width)
+from .lines import (BASES, COMMANDS, FIRST_COUNT, FIRST_RECORD, LEND, LENGTH, MOST_REPEATS, RAW, READERS, VERSION,
+                    WIDTHS, fields, start, width)
 
 Command = namedtuple("Command", "kind numbers data")  # kind None: bytes that are no whole command, up to the end
 A_LINE = 16  # bytes that are no words are told so many on a line
@@ -53,11 +53,11 @@ def command_words(command):
     return filled(COMMANDS[command.kind], command.numbers)
 
 
-def raw_words(data, why):
-    """Lines of bytes, with the reason at the first; one line even if there is no byte, since it tells where a header ends."""
+def raw_words(data, why=None):
+    """Lines of bytes, with the reason at the first; one line even for no byte, since it tells where a header ends."""
     lines = [" ".join([start(RAW)] + ["%02x" % byte for byte in data[at:at + A_LINE]])
              for at in range(0, max(1, len(data)), A_LINE)]
-    return [lines[0] + "  # " + why] + lines[1:]
+    return [lines[0] + ("  # " + why if why else "")] + lines[1:]
 
 
 def header_parts(data):
@@ -88,8 +88,8 @@ def part_words(form, body):
 
 
 def header_words(data):
-    """The lines of a header, and where it ends. Of one that is cut short, the lines that are whole, up to the first count, the
-    rest in bytes, and None."""
+    """The lines of a header, and where it ends. Of one that is cut short, the lines that are whole, up to the first count,
+    the rest in bytes, and None."""
     parts = dict(header_parts(data))
     lines, at = [part_words(*part) for part in parts.items()], sum(map(len, parts.values()))
     found = records(data[at:], number(parts[LENGTH])) if FIRST_COUNT in parts else None
