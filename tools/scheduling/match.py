@@ -1,5 +1,7 @@
 """Which line of a schedule some words are."""
 
+from functools import lru_cache
+
 from .lines import FORMS, WIDTHS, Problem, is_number, most
 
 
@@ -37,8 +39,9 @@ def expected(forms, place):
     return found[0] if len(found) == 1 else "%s or %s" % (", ".join(found[:-1]), found[-1])
 
 
+@lru_cache(maxsize=1024)  # the same lines come again and again
 def form_of(words):
-    """The line that these words are; what follows its own words in a list is not looked at."""
+    """The line that these words are, a tuple; what stands in a list is not looked at."""
     left = FORMS
     for place, word in enumerate(words):
         fitting = [form for form in left if fits(slot(form, place), word)]

@@ -83,7 +83,7 @@ class Spelling:
         words, times = repeated(tokens(line))
         if not words:
             return
-        form = form_of(words)
+        form = form_of(tuple(words))
         if form in HEADER:
             self.take_header(form, words, times, at)
         else:
