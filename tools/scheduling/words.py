@@ -53,11 +53,10 @@ def command_words(command):
     return filled(COMMANDS[command.kind], command.numbers)
 
 
-def raw_words(data, why=None):
-    """Lines of bytes, with the reason at the first; one line even for no byte, since it tells where a header ends."""
-    lines = [" ".join([start(RAW)] + ["%02x" % byte for byte in data[at:at + A_LINE]])
-             for at in range(0, max(1, len(data)), A_LINE)]
-    return [lines[0] + ("  # " + why if why else "")] + lines[1:]
+def raw_words(data):
+    """Lines of bytes; one even for no byte, since it tells where a header ends."""
+    pieces = [data[at:at + A_LINE] for at in range(0, max(1, len(data)), A_LINE)]
+    return folded(" ".join([start(RAW)] + ["%02x" % byte for byte in piece]) for piece in pieces)
 
 
 def header_parts(data):
@@ -94,7 +93,7 @@ def header_words(data):
     lines, at = [part_words(*part) for part in parts.items()], sum(map(len, parts.values()))
     found = records(data[at:], number(parts[LENGTH])) if FIRST_COUNT in parts else None
     if found is None:
-        return lines + raw_words(data[at:], "the header is cut short"), None
+        return lines + ["# the header is cut short"] + raw_words(data[at:]), None
     first, lent, length = found
     lines.append("%s %s" % (start(FIRST_RECORD), record_words(first)))
     lines += folded("%s %s" % (start(LEND), record_words(record)) for record in lent)
@@ -121,6 +120,6 @@ def words_of(data):
         rest = found.pop() if found and found[-1].kind is None else None
         lines += [""] * bool(found or rest) + folded(map(command_words, found))
         if rest:
-            known = rest.data[0] in COMMANDS
-            lines += raw_words(rest.data, "a command cut short" if known else "an unknown command, and what follows it")
+            lines.append("# a command cut short" if rest.data[0] in COMMANDS else "# an unknown command, and what follows it")
+            lines += raw_words(rest.data)
     return "\n".join(lines) + "\n"
