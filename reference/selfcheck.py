@@ -9,7 +9,6 @@ what was checked; the exit status is 1 if anything fails."""
 import sys
 from collections import Counter
 from itertools import combinations_with_replacement
-from pathlib import Path
 
 import folded
 import inputs
@@ -19,7 +18,6 @@ from inputs import (DOCUMENT_RUN, WRITER, cancel, header, read_count, read_count
                     write_record)
 from runlist import BODY_LENGTH, FOLDED, PLAIN, Refusal, digits_of, opened, printed, product, run, shown
 
-EXAMPLES = Path(__file__).resolve().parent.parent / "examples"
 NAMES = {PLAIN: "plain pages", FOLDED: "folded pages"}
 failures = 0
 
@@ -477,19 +475,9 @@ def generated_folded(seeds):
     print("they end with refusal " + ", ".join("%d: %d" % end for end in sorted(refusals.items())))
 
 
-def examples():
-    """The commented schedules print what stands beside them."""
-    names = sorted(EXAMPLES.glob("*.hex"))
-    for name in names:
-        data = bytes.fromhex(" ".join(line.split("#")[0].strip() for line in name.read_text().splitlines()))
-        same(printed(data), name.with_suffix(".out").read_text(), name.name)
-    print("examples: %s" % ", ".join(name.name for name in names))
-
-
 def main():
     document()
     choices()
-    examples()
     count_reads([2, 3], 2, PLAIN)
     count_reads([2, 3, 2], 1, PLAIN)
     count_reads([3], 3, FOLDED)
