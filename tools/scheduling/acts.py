@@ -12,10 +12,9 @@ import runlist as reference  # noqa: E402  the reference is no package
 
 WRITER, NOBODY = "writer", "no one"  # lanes; the others are readers
 COUNT, RECORD, REFUSED = "count", "record", "refused"  # sorts of acts
-REFUSALS = {1: "bad form", 2: "wrong length", 3: "strange mark", 4: "over the top", 5: "going back", 6: "busy",
-            7: "nothing in hand", 8: "no such", 9: "numbers spent", 10: "crossed copies", 11: "unknown command",
-            12: "log full"}
-
+REFUSALS = {1: "bad format", 2: "wrong length", 3: "invalid state", 4: "count too large", 5: "count decreases",
+            6: "busy", 7: "nothing pending", 8: "no such reader, record or number of attempts", 9: "versions exhausted",
+            10: "copies crossed", 11: "unknown command", 12: "log full"}
 ARROWS = "\u2192\u2190"  # a part's name tells in which direction it is gone over, if it has more than one place
 
 Step = namedtuple("Step", "column part byte")  # the number of its command, where on the page, and what was moved

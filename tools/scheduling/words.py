@@ -87,8 +87,8 @@ def part_words(form, body):
 
 
 def header_words(data):
-    """The lines of a header, and where it ends. Of one that is cut short, the lines that are whole, up to the first count,
-    the rest in bytes, and None."""
+    """The lines of a header, and where it ends. Of one that is cut short, the lines that are whole, up to the first
+    count, the rest in bytes, and None."""
     parts = dict(header_parts(data))
     lines, at = [part_words(*part) for part in parts.items()], sum(map(len, parts.values()))
     found = records(data[at:], number(parts[LENGTH])) if FIRST_COUNT in parts else None
@@ -120,6 +120,7 @@ def words_of(data):
         rest = found.pop() if found and found[-1].kind is None else None
         lines += [""] * bool(found or rest) + folded(map(command_words, found))
         if rest:
-            lines.append("# a command cut short" if rest.data[0] in COMMANDS else "# an unknown command, and what follows it")
+            known = rest.data[0] in COMMANDS
+            lines.append("# a command cut short" if known else "# an unknown command, and what follows it")
             lines += raw_words(rest.data)
     return "\n".join(lines) + "\n"
