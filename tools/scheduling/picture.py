@@ -17,6 +17,7 @@ LEGEND = (  # the class that a picture must have for a line of the legend, and t
     ("accepted", "an attempt that is accepted: its versions are equal"),
     ("order", "the order of whole acts, which are record writes and accepted record reads"),
     ("cross", "a read is cancelled, or a command is refused"),
+    ("line", "a line that runlist prints"),
 )
 
 
@@ -43,6 +44,8 @@ def sample(css, x, y):
         return svg.numbered(x + BAR / 2, y, 1)
     if css == "cross":
         return svg.cross(x + BAR / 2, y)
+    if css == "line":
+        return [svg.text("letters", x, y + 4, "END")]
     return [svg.rect(css, x, y - 6, BAR, 12)]
 
 

@@ -11,7 +11,7 @@ text { font-family: Helvetica, Arial, sans-serif; font-size: 11px; fill: #222 }
 .middle { text-anchor: middle }
 .title { font-weight: bold }
 .title, .told, .line { paint-order: stroke; stroke: #fff; stroke-width: 4px }
-.line, .digit { font-family: "DejaVu Sans Mono", Menlo, Consolas, monospace }
+.line, .digit, .letters { font-family: "DejaVu Sans Mono", Menlo, Consolas, monospace }
 .digit { font-size: 10px; text-anchor: middle }
 .grid { stroke: #e6e6e6 }
 .rail { stroke: #bbb }
