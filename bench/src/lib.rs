@@ -1,6 +1,9 @@
 //! The page and the queue in plain Rust beside the proved archives: what the benches measure and the fuzz programs
 //! compare.
 
+pub mod answered;
+pub mod guarded;
+pub mod lendable;
 pub mod owned;
 pub mod plain;
 pub mod plain_queue;
