@@ -30,10 +30,10 @@ impl Case<'_> {
     pub fn play(&mut self) {
         match self.random.below(20) {
             0..=4 => self.garbage(),
-            5 => self.long_runs(),
-            6 => self.far_record(),
-            7 => self.last_attempts(),
-            8 => self.crowd(),
+            5 | 6 => self.long_runs(),
+            7 => self.far_record(),
+            8 => self.last_attempts(),
+            9 => self.crowd(),
             _ => self.page(),
         }
     }

@@ -13,16 +13,22 @@ use crate::wild::some_form;
 const MOST_ATTEMPTS: usize = 255;
 
 impl Case<'_> {
-    /// Runs of many commands, on a page where acts are short, so that many reads end.
+    /// Runs of many commands, on a page where acts are short, so that many reads end; half of them where no acts are
+    /// shorter.
     pub fn long_runs(&mut self) {
         let n = self.random.of(&[1, 1, 2, 5]);
         let mut form = self.form_with(n);
-        form.bases.truncate(2);
+        let longest = self.random.one_in(2);
+        if longest {
+            form.format = Format { q: 1, n: 1, ..form.format };
+        }
+        form.bases.truncate(if longest { 1 } else { 2 });
         if !self.opened(Owned::blank(form.format, &form.bases), 3) {
             return;
         }
-        for _ in 0..self.random.between(1, 3) {
-            self.long_schedule();
+        for _ in 0..if longest { 1 } else { self.random.between(1, 3) } {
+            let turns = if longest { 70_000 } else { self.random.of(&[3_200, 4_200, 12_000]) };
+            self.long_schedule(turns);
             if !self.go_on() {
                 return;
             }
@@ -74,7 +80,8 @@ impl Case<'_> {
     }
 
     fn bring_to_last_attempts(&mut self, who: u8) {
-        let allowed = self.random.between(MOST_ATTEMPTS - 5, MOST_ATTEMPTS) as u8;
+        let fewer = self.random.below(6);
+        let allowed = (MOST_ATTEMPTS - self.random.of(&[0, fewer])) as u8;
         let Format { q, n, .. } = self.call.lent.format;
         let begun = [vec![5, who, allowed], [6, who].repeat(self.random.below(2 * q + n))].concat();
         let (_, ending) = plain::run(&mut self.call.lent.lend(), &self.call.records, &begun, &mut []);

@@ -26,13 +26,12 @@ impl Case<'_> {
         self.call.log = self.random.bytes(room.min(400));
     }
 
-    /// A run of many short turns, which is hardly ever refused before its log is full: mostly it holds all entries, else
-    /// those of the first half and some more.
-    pub fn long_schedule(&mut self) {
-        let turns = self.random.of(&[3_200, 4_200, 12_000, 40_000]);
+    /// A run of many short turns, which is hardly ever refused before its log is full: mostly that holds all entries,
+    /// else those of the first half and some more.
+    pub fn long_schedule(&mut self, turns: usize) {
         let entries = self.turns(turns, true, 50_000);
         let half = entries.len() / 2;
-        let held = if self.random.one_in(3) { half + self.random.below(half + 1) } else { entries.len() };
+        let held = if self.random.one_in(4) { half + self.random.below(half + 1) } else { entries.len() };
         let room = entries[..held].iter().sum::<usize>() + self.random.below(LONGEST_ENTRY);
         self.call.log = self.random.bytes(room);
     }
