@@ -20,11 +20,11 @@ def copy_of_sources(*left_out):
 
 
 @contextlib.contextmanager
-def edited(folder, *edits):
+def edited(folder, *edits, inside="crates"):
     """While it lasts the sources are wrong. An edit: a file, its right text, which must be there once, and the wrong one."""
     right = {}
     for file, old, new in edits:
-        path = folder / "crates" / file
+        path = folder / inside / file
         text = path.read_text()
         right.setdefault(path, text)
         if text.count(old) != 1:

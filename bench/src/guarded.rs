@@ -21,6 +21,17 @@ pub enum Side {
     After,
 }
 
+impl Side {
+    /// Of all that is lent in a case: every other one has the other side.
+    pub fn of_case(case: u64) -> Side {
+        if case.is_multiple_of(2) {
+            Side::Before
+        } else {
+            Side::After
+        }
+    }
+}
+
 /// What a call may do with what it is lent.
 #[derive(Clone, Copy, Debug, PartialEq)]
 pub enum Access {

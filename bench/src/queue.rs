@@ -60,7 +60,24 @@ impl Memory {
     #[inline]
     pub fn archive(&mut self, call: Call) -> u8 {
         let Memory { format, bases, queue, sender, receiver, records, buffer } = self;
-        let lent = &mut Lent { format, bases, queue };
+        Archive { lent: Lent { format, bases, queue }, sender, receiver, records, buffer }.call(call)
+    }
+}
+
+/// All that the archive's calls are lent, wherever it lies.
+pub struct Archive<'a> {
+    pub lent: Lent<'a>,
+    pub sender: &'a mut Sender,
+    pub receiver: &'a mut Receiver,
+    pub records: &'a [u8],
+    pub buffer: &'a mut [u8],
+}
+
+impl Archive<'_> {
+    /// The ending of a call.
+    #[inline]
+    pub fn call(&mut self, call: Call) -> u8 {
+        let Archive { lent, sender, receiver, records, buffer } = self;
         match call {
             Call::Open => lent.open(sender, receiver),
             Call::SendBegin(index) => lent.send_begin(sender, records, index),

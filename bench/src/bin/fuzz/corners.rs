@@ -6,6 +6,7 @@ use lagumtay_bench::plain::{self, command_of};
 
 use crate::call::Function;
 use crate::case::Case;
+use crate::damage::damage_state;
 use crate::reached::FAR;
 use crate::wild::some_form;
 
@@ -128,10 +129,20 @@ impl Case<'_> {
             begun.push([begin, [6, who].repeat(steps)].concat());
         }
         let next = (0..16).map(|who| vec![6, who]).collect::<Vec<_>>();
-        if self.run_of(&begun.concat()) && self.carry_out(&next) {
+        if self.run_of(&begun.concat()) && (0..16).all(|who| self.with_damaged_state(who)) && self.carry_out(&next) {
             let calls = self.random.between(1, 20);
             self.calls(calls);
         }
+    }
+
+    /// A step of a reader whose state is damaged, and then put back. No: it differs.
+    fn with_damaged_state(&mut self, who: u8) -> bool {
+        let whole = self.call.clone();
+        damage_state(&mut self.random, &mut self.call.lent, who.into());
+        self.step_of(&[6, who]);
+        let same = self.compare().is_some();
+        self.call = whole;
+        same
     }
 
     /// Any record, versions that are often equal, and copies of the count of which the second is not below the first. All

@@ -1,5 +1,7 @@
 //! Calls that are damaged in one place, and calls of nothing but garbage.
 use lagumtay::raw::{Reader, PACKED, PLAIN};
+use lagumtay_bench::owned::Owned;
+use lagumtay_bench::random::Random;
 
 use crate::call::Function;
 use crate::case::Case;
@@ -27,21 +29,8 @@ impl Case<'_> {
             }
             8 => lent.writer = wild_writer(random, lent),
             9 | 10 => {
-                let wild = wild_reader(random, lent);
                 let at = random.below(lent.readers.len());
-                let reader = &mut lent.readers[at];
-                // The last place of b, which no reader of a folded page gathers.
-                let last = 8 + lent.bases.len().clamp(1, 8) - 1;
-                match random.below(8) {
-                    0 => reader.kind = wild.kind,
-                    1 => reader.allowed = wild.allowed,
-                    2 => reader.finished = wild.finished,
-                    3 => reader.choice = wild.choice,
-                    4 => reader.steps = wild.steps,
-                    5 => *reader = wild,
-                    6 => reader.digits[last] = random.between(1, 3) as u8,
-                    _ => change_byte(random, &mut reader.digits),
-                }
+                damage_state(random, lent, at);
             }
             11 => match random.below(6) {
                 0 => change_length(random, &mut lent.page),
@@ -139,5 +128,23 @@ impl Case<'_> {
             Function::Unpack,
         ]);
         self.compare();
+    }
+}
+
+/// One field of a reader's state becomes another, or the whole of it.
+pub fn damage_state(random: &mut Random, lent: &mut Owned, at: usize) {
+    let wild = wild_reader(random, lent);
+    let reader = &mut lent.readers[at];
+    // The last place of b, which no reader of a folded page gathers.
+    let last = 8 + lent.bases.len().clamp(1, 8) - 1;
+    match random.below(8) {
+        0 => reader.kind = wild.kind,
+        1 => reader.allowed = wild.allowed,
+        2 => reader.finished = wild.finished,
+        3 => reader.choice = wild.choice,
+        4 => reader.steps = wild.steps,
+        5 => *reader = wild,
+        6 => reader.digits[last] = random.between(1, 3) as u8,
+        _ => change_byte(random, &mut reader.digits),
     }
 }

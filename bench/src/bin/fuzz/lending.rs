@@ -58,11 +58,13 @@ impl Lending {
         match call.function {
             Function::Pack => {
                 let readers = self.readers.lend(manner, &call.lent.readers, Read);
-                Told::nothing(raw::pack(readers, self.packed.lend(manner, &call.packed, Write)))
+                let packed = self.packed.lend(manner, &call.packed, Write);
+                Told::nothing(raw::pack(readers, packed))
             }
             Function::Unpack => {
                 let readers = self.readers.lend(manner, &call.lent.readers, Write);
-                Told::nothing(raw::unpack(readers, self.packed.lend(manner, &call.packed, Read)))
+                let packed = self.packed.lend(manner, &call.packed, Read);
+                Told::nothing(raw::unpack(readers, packed))
             }
             _ => self.page_call(call, manner),
         }
@@ -80,7 +82,8 @@ impl Lending {
             buffers: self.buffers.lend(manner, &call.lent.buffers, access),
         };
         if call.function == Function::Open {
-            return Told::nothing(lent.open(call.count, self.record.lend(manner, &call.record, Read)));
+            let record = self.record.lend(manner, &call.record, Read);
+            return Told::nothing(lent.open(call.count, record));
         }
         let records = self.records.lend(manner, &call.records, Read);
         match call.function {

@@ -45,7 +45,7 @@ fn compared(calls: u64, seed: u64, only: Option<u64>) -> bool {
             count: 0,
             name,
             verbose: only.is_some(),
-            side: if at % 2 == 0 { Side::Before } else { Side::After },
+            side: Side::of_case(at),
             lending: &mut lending,
             totals: &mut totals,
         };

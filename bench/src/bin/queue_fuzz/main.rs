@@ -4,11 +4,18 @@
 //!
 //! A case is a queue that both sides use in turns of random length. About every other call goes on with it; the others
 //! take a copy in which something is damaged, or numbers and states are made up, and the copy is dropped after a few
-//! calls. Every call goes to both, and all that was lent is compared. CASE replays that one alone. Exit status 1: some
-//! call differed, or many calls did not meet each answer.
+//! calls. Every call goes to both, and all that was lent is compared. What the archive is lent touches a page that may not
+//! be touched, in every other case behind it and else before it; what it may only read cannot be written. CASE replays
+//! that one alone. Exit status 1: some call differed, or many calls did not meet each answer. A touch outside of what was
+//! lent ends the program by its signal, and tells the case.
+mod lending;
+
+use lagumtay_bench::guarded::{named, Side};
 use lagumtay_bench::queue::{Call, Memory};
 use lagumtay_bench::queue_random::{damage, make_up, some_call, some_index, some_queue, stand};
 use lagumtay_bench::random::Random;
+
+use crate::lending::Lending;
 
 const MOST_SHOWN: u64 = 10;
 const ANSWERS: [u8; 10] = [0, 1, 2, 3, 6, 7, 8, 9, 13, 14];
@@ -54,8 +61,11 @@ struct Case<'a> {
     held: usize,
     /// whether the last step of a side was refused by 13 or 14
     refused: [bool; 2],
-    name: String,
+    name: &'a str,
     verbose: bool,
+    /// of a guard, for all that is lent
+    side: Side,
+    lending: &'a mut Lending,
     totals: &'a mut Totals,
 }
 
@@ -63,21 +73,23 @@ impl Case<'_> {
     /// Hand the call to both and compare. Gives the answer, or nothing if they differ.
     fn compare(&mut self, memory: &mut Memory, call: Call) -> Option<u8> {
         let before = memory.clone();
-        let mut theirs = memory.clone();
+        if self.verbose {
+            println!("{call:?} {before:02x?}");
+        }
         let answer = memory.plain(call);
-        let their_answer = theirs.archive(call);
+        let (their_answer, theirs) = self.lending.archive(&before, call, self.side);
         self.totals.calls += 1;
         self.totals.functions[function(call)] += 1;
         self.totals.answers[usize::from(answer)] += 1;
         if self.verbose {
-            println!("{call:?} {before:02x?}\n  answers {answer}\n");
+            println!("  answers {answer}\n");
         }
         if answer == their_answer && *memory == theirs {
             return Some(answer);
         }
         self.totals.differed += 1;
         if self.totals.differed <= MOST_SHOWN {
-            println!("{}: {call:?}, plain {answer}, archive {their_answer}", self.name);
+            println!("{}, call {}: {call:?}, plain {answer}, archive {their_answer}", self.name, self.totals.calls);
             println!("before {before:02x?}\nplain leaves {memory:02x?}\narchive leaves {theirs:02x?}");
         }
         None
@@ -192,18 +204,22 @@ fn print_totals(totals: &Totals, cases: u64) {
 /// Whether no call differed, and all answers were met where there were many.
 fn compared(calls: u64, seed: u64, only: Option<u64>) -> bool {
     let mut totals = Totals::default();
+    let mut lending = Lending::default();
     let mut at = only.unwrap_or(0);
     while totals.calls < calls {
+        let name = &format!("seed {seed}, case {at}");
         let mut case = Case {
             random: Random::new(seed.wrapping_mul(0x0100_0000_01b3) ^ at),
             memory: Memory::default(),
             held: 0,
             refused: [false; 2],
-            name: format!("seed {seed}, case {at}"),
+            name,
             verbose: only.is_some(),
+            side: Side::of_case(at),
+            lending: &mut lending,
             totals: &mut totals,
         };
-        case.queue();
+        named(name, || case.queue());
         at += 1;
         if only.is_some() {
             break;
