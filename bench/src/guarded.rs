@@ -109,7 +109,7 @@ impl<T: Lendable> Guarded<T> {
     /// Where the bytes of padding lie.
     fn padding_bytes(&self) -> impl Iterator<Item = usize> {
         let begins = (self.at..).step_by(size_of::<T>()).take(self.length);
-        begins.flat_map(|begin| T::PADDING.iter().cloned().flatten().map(move |at| begin + at))
+        begins.flat_map(|begin| T::PADDING.iter().map(move |at| begin + at))
     }
 }
 
