@@ -32,15 +32,16 @@ const ROWS: &[(&str, usize, Schedule)] = &[
     ("count reads between two counts, m = 8", 1, Reads { m: 8, parted: true }),
     ("record writes and reads, n = 2", 1, Records { n: 2 }),
     ("record writes and reads, n = 256", 1, Records { n: 256 }),
-    ("counts and records, steps in random order", 1, Mixed { most: 1 }),
+    ("counts and records, steps in random order", 1, Mixed { most: 1, layout: PLAIN }),
     ("16 readers, count writes and reads, m = 2", 16, Counts { m: 2, layout: PLAIN }),
     ("16 readers, count writes and reads, m = 8", 16, Counts { m: 8, layout: PLAIN }),
     ("16 readers, count writes and reads, m = 2, folded", 16, Counts { m: 2, layout: FOLDED }),
     ("16 readers, count writes and reads, m = 8, folded", 16, Counts { m: 8, layout: FOLDED }),
     ("16 readers, record writes and reads, n = 2", 16, Records { n: 2 }),
     ("16 readers, record writes and reads, n = 256", 16, Records { n: 256 }),
-    ("16 readers, counts and records mixed", 16, Mixed { most: 6 }),
-    ("16 readers, counts and records, steps in random order", 16, Mixed { most: 1 }),
+    ("16 readers, counts and records mixed", 16, Mixed { most: 6, layout: PLAIN }),
+    ("16 readers, counts and records, steps in random order", 16, Mixed { most: 1, layout: PLAIN }),
+    ("16 readers, counts and records, steps in random order, folded", 16, Mixed { most: 1, layout: FOLDED }),
 ];
 
 enum Schedule {
@@ -50,9 +51,8 @@ enum Schedule {
     Reads { m: usize, parted: bool },
     /// One record after the other, on a plain page, written and then read by the next reader.
     Records { n: usize },
-    /// On a plain page, readers of counts and records in random turns with a writer of both; a turn has up to so many
-    /// commands.
-    Mixed { most: usize },
+    /// Readers of counts and records in random turns with a writer of both; a turn has up to so many commands.
+    Mixed { most: usize, layout: u16 },
 }
 use Schedule::*;
 
@@ -104,7 +104,7 @@ impl Case {
             Counts { m, layout } => Case::counts(readers, m, layout, commands),
             Reads { m, parted } => Case::reads(readers, m, parted, commands),
             Records { n } => Case::records(readers, n, commands),
-            Mixed { most } => Case::mixed(readers, most, commands),
+            Mixed { most, layout } => Case::mixed(readers, most, layout, commands),
         };
         case.name = name;
         case.begins.truncate(commands + 1);
@@ -190,9 +190,9 @@ impl Case {
         case
     }
 
-    fn mixed(readers: usize, most: usize, commands: usize) -> Case {
+    fn mixed(readers: usize, most: usize, layout: u16, commands: usize) -> Case {
         let mut random = Random::new(readers as u64);
-        let format = Format { q: 2, base: 256, layout: PLAIN, n: 16, readers };
+        let format = Format { q: 2, base: 256, layout, n: 16, readers };
         let lent = random.bytes(16 * 16);
         let mut case = Case::empty(Hall::open(&[10, 24, 60, 60], format, 0, lent));
         // A page that follows, to know who is idle: nothing is refused.

@@ -116,6 +116,12 @@ impl Case<'_> {
                         return;
                     }
                 }
+                16 | 17 => {
+                    if !self.damaged_states() {
+                        return;
+                    }
+                    continue;
+                }
                 _ => self.schedule(),
             }
             if !self.go_on() {

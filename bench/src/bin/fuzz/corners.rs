@@ -6,7 +6,6 @@ use lagumtay_bench::plain::{self, command_of};
 
 use crate::call::Function;
 use crate::case::Case;
-use crate::damage::damage_state;
 use crate::reached::FAR;
 use crate::wild::some_form;
 
@@ -128,32 +127,25 @@ impl Case<'_> {
             let steps = self.random.of(&[0, any, all - 1, all - 1]);
             begun.push([begin, [6, who].repeat(steps)].concat());
         }
-        let next = (0..16).map(|who| vec![6, who]).collect::<Vec<_>>();
-        if self.run_of(&begun.concat()) && (0..16).all(|who| self.with_damaged_state(who)) && self.carry_out(&next) {
+        // All go on, and a write of a record is begun: perhaps of the last version there is, or none is left.
+        let next = [(0..16).map(|who| vec![6, who]).collect(), vec![vec![2, 0, 1], vec![3], vec![3]]].concat();
+        if self.run_of(&begun.concat()) && (0..16).all(|who| self.damaged_state(who)) && self.carry_out(&next) {
             let calls = self.random.between(1, 20);
             self.calls(calls);
         }
     }
 
-    /// A step of a reader whose state is damaged, and then put back. No: it differs.
-    fn with_damaged_state(&mut self, who: u8) -> bool {
-        let whole = self.call.clone();
-        damage_state(&mut self.random, &mut self.call.lent, who.into());
-        self.step_of(&[6, who]);
-        let same = self.compare().is_some();
-        self.call = whole;
-        same
-    }
-
-    /// Any record, versions that are often equal, and copies of the count of which the second is not below the first. All
-    /// bases are 256.
+    /// Any record, versions that are often equal and often near the last, and copies of the count of which the second is
+    /// not below the first. All bases are 256.
     fn fill_page(&mut self) {
         let Case { random, call, .. } = self;
         let first = random.next_u64() >> random.below(64);
         let second = first.saturating_add(if random.one_in(2) { 0 } else { random.next_u64() >> random.below(64) });
         let own = 8 - usize::from(call.lent.format.layout);
-        let version = random.bytes(4);
-        let other = if random.one_in(2) { version.clone() } else { random.bytes(4) };
+        let any = random.next_u64() as u32;
+        let version = random.of(&[any, any, u32::MAX - 1, u32::MAX]);
+        let other = random.of(&[version, version, any, version.wrapping_sub(1)]);
+        let [version, other] = [version, other].map(u32::to_be_bytes);
         call.lent.page =
             [&first.to_be_bytes()[..], &second.to_be_bytes()[..own], &version, &random.bytes(256), &other].concat();
         self.count = second;

@@ -17,20 +17,10 @@ impl Case<'_> {
             3 => change_byte(random, &mut lent.buffers),
             4 | 5 => change_byte(random, &mut call.commands),
             6 => call.commands.truncate(random.below(call.commands.len() + 1)),
-            7 => {
-                let wild = wild_writer(random, lent);
-                match random.below(5) {
-                    0 => lent.writer.count = wild.count,
-                    1 => lent.writer.index = wild.index,
-                    2 => lent.writer.steps = wild.steps,
-                    3 => lent.writer.version = wild.version,
-                    _ => lent.writer.kind = wild.kind,
-                }
-            }
-            8 => lent.writer = wild_writer(random, lent),
+            7 | 8 => damage_writer(random, lent, call.records.len()),
             9 | 10 => {
                 let at = random.below(lent.readers.len());
-                damage_state(random, lent, at);
+                damage_reader(random, lent, at);
             }
             11 => match random.below(6) {
                 0 => change_length(random, &mut lent.page),
@@ -84,6 +74,30 @@ impl Case<'_> {
         }
     }
 
+    /// Calls with the state of the writer or of a reader damaged, and put back after each. No: one differs.
+    pub fn damaged_states(&mut self) -> bool {
+        (0..4).all(|_| {
+            let at = self.random.below(2 * self.call.lent.readers.len());
+            self.damaged_state(at)
+        })
+    }
+
+    /// A step of this reader, or beyond the last of the writer, with its state damaged. No: it differs.
+    pub fn damaged_state(&mut self, at: usize) -> bool {
+        let whole = self.call.clone();
+        let Case { random, call, .. } = self;
+        if at < call.lent.readers.len() {
+            damage_reader(random, &mut call.lent, at);
+            self.step_of(&[6, at as u8]);
+        } else {
+            damage_writer(random, &mut call.lent, call.records.len());
+            self.step_of(&[3]);
+        }
+        let same = self.compare().is_some();
+        self.call = whole;
+        same
+    }
+
     /// A call of nothing but garbage, of which the form is good every other time.
     pub fn garbage(&mut self) {
         let Case { random, call, .. } = self;
@@ -131,8 +145,23 @@ impl Case<'_> {
     }
 }
 
+/// One field of the writer's state becomes another, or the whole of it, with so many bytes of records lent.
+fn damage_writer(random: &mut Random, lent: &mut Owned, records: usize) {
+    let wild = wild_writer(random, lent);
+    let last = records / lent.format.n.max(1);
+    let (edge_count, edge_version) = (edge_count(random, lent), edge_version(random, lent));
+    match random.below(6) {
+        0 => lent.writer.count = random.of(&[1, wild.count, edge_count]),
+        1 => lent.writer.index = random.of(&[1, last.wrapping_sub(1), last, wild.index, 1 << 16, usize::MAX / 2 + 1]),
+        2 => lent.writer.steps = wild.steps,
+        3 => lent.writer.version = random.of(&[0, 1, wild.version, edge_version]),
+        4 => lent.writer.kind = wild.kind,
+        _ => lent.writer = wild,
+    }
+}
+
 /// One field of a reader's state becomes another, or the whole of it.
-pub fn damage_state(random: &mut Random, lent: &mut Owned, at: usize) {
+fn damage_reader(random: &mut Random, lent: &mut Owned, at: usize) {
     let wild = wild_reader(random, lent);
     let reader = &mut lent.readers[at];
     // The last place of b, which no reader of a folded page gathers.
