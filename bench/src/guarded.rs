@@ -1,7 +1,7 @@
 //! Memory between pages that may not be touched. What is lent ends right before one of them or begins right after one,
 //! so that a touch beyond that end is a fault. All of it is there at two addresses, of which only one can be written:
-//! what a call may only read is lent at the other, and a write there is a fault too. So a call is guarded without a call
-//! of the system. A fault ends the program by its signal, and the name of the case is told before.
+//! what a call may only read is lent at the other, and a write there is a fault too. So no call needs a call of the
+//! system to be guarded. A fault ends the program by its signal, and the name of the case is told before.
 use std::ffi::{c_char, c_int, c_uint, c_void};
 use std::marker::PhantomData;
 use std::ptr::null_mut;

@@ -135,8 +135,8 @@ impl Case<'_> {
         }
     }
 
-    /// Any record, versions that are often equal and often near the last, and copies of the count of which the second is
-    /// not below the first. All bases are 256.
+    /// Any record, versions that are often equal and often near the last, and copies of the count of which the second
+    /// is not below the first. All bases are 256.
     fn fill_page(&mut self) {
         let Case { random, call, .. } = self;
         let first = random.next_u64() >> random.below(64);

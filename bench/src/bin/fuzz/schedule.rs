@@ -67,9 +67,9 @@ impl Case<'_> {
         entries
     }
 
-    /// The room in the log of a schedule that makes entries of these sizes: mostly enough, now and then any, and now and
-    /// then such that one of the entries just fits or does not; the first of copies that part, if there is one, since
-    /// with 10 to 17 bytes left a count shown would fit.
+    /// The room in the log of a schedule that makes entries of these sizes: mostly enough, now and then any, and now
+    /// and then such that one of the entries just fits or does not; the first of copies that part, if there is one,
+    /// since with 10 to 17 bytes left a count shown would fit.
     fn room(&mut self, entries: &[usize]) -> usize {
         match self.random.below(8) {
             0 => self.random.below(30),

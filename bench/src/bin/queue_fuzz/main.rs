@@ -4,10 +4,10 @@
 //!
 //! A case is a queue that both sides use in turns of random length. About every other call goes on with it; the others
 //! take a copy in which something is damaged, or numbers and states are made up, and the copy is dropped after a few
-//! calls. Every call goes to both, and all that was lent is compared. What the archive is lent touches a page that may not
-//! be touched, in every other case behind it and else before it; what it may only read cannot be written. CASE replays
-//! that one alone. Exit status 1: some call differed, or many calls did not meet each answer. A touch outside of what was
-//! lent ends the program by its signal, and tells the case.
+//! calls. Every call goes to both, and all that was lent is compared. What the archive is lent begins right after a
+//! page that may not be touched, and in every other case ends right before one; what it may only read cannot be
+//! written. CASE replays that one alone. Exit status 1: some call differed, or many calls did not meet each answer. A
+//! touch outside of what was lent ends the program by its signal, and tells the case.
 mod lending;
 
 use lagumtay_bench::guarded::{named, Side};
