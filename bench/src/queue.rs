@@ -15,6 +15,23 @@ pub enum Call {
     ReceiveCancel,
 }
 
+/// The ending of a call of the archive with all that it can be lent, wherever that lies. It is no function: that would
+/// cost `queue_bench` half a nanosecond a call.
+#[macro_export]
+macro_rules! archive_call {
+    ($call:expr, $lent:expr, $sender:expr, $receiver:expr, $records:expr, $buffer:expr) => {
+        match $call {
+            $crate::queue::Call::Open => $lent.open($sender, $receiver),
+            $crate::queue::Call::SendBegin(index) => $lent.send_begin($sender, $records, index),
+            $crate::queue::Call::SendStep => $lent.send_step($sender, $records),
+            $crate::queue::Call::SendCancel => $lent.send_cancel($sender, $records),
+            $crate::queue::Call::ReceiveBegin => $lent.receive_begin($receiver, $buffer),
+            $crate::queue::Call::ReceiveStep => $lent.receive_step($receiver, $buffer),
+            $crate::queue::Call::ReceiveCancel => $lent.receive_cancel($receiver, $buffer),
+        }
+    };
+}
+
 /// All that the calls of both sides are lent.
 #[derive(Clone, Debug, Default, PartialEq)]
 pub struct Memory {
@@ -60,32 +77,7 @@ impl Memory {
     #[inline]
     pub fn archive(&mut self, call: Call) -> u8 {
         let Memory { format, bases, queue, sender, receiver, records, buffer } = self;
-        Archive { lent: Lent { format, bases, queue }, sender, receiver, records, buffer }.call(call)
-    }
-}
-
-/// All that the archive's calls are lent, wherever it lies.
-pub struct Archive<'a> {
-    pub lent: Lent<'a>,
-    pub sender: &'a mut Sender,
-    pub receiver: &'a mut Receiver,
-    pub records: &'a [u8],
-    pub buffer: &'a mut [u8],
-}
-
-impl Archive<'_> {
-    /// The ending of a call.
-    #[inline]
-    pub fn call(&mut self, call: Call) -> u8 {
-        let Archive { lent, sender, receiver, records, buffer } = self;
-        match call {
-            Call::Open => lent.open(sender, receiver),
-            Call::SendBegin(index) => lent.send_begin(sender, records, index),
-            Call::SendStep => lent.send_step(sender, records),
-            Call::SendCancel => lent.send_cancel(sender, records),
-            Call::ReceiveBegin => lent.receive_begin(receiver, buffer),
-            Call::ReceiveStep => lent.receive_step(receiver, buffer),
-            Call::ReceiveCancel => lent.receive_cancel(receiver, buffer),
-        }
+        let lent = &mut Lent { format, bases, queue };
+        archive_call!(call, lent, sender, receiver, records, buffer)
     }
 }
