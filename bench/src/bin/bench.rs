@@ -1,10 +1,12 @@
 //! Times the archive's run beside the plain one, on the same commands in one process, and prints nanoseconds a command.
 //!
 //!     cargo run --release --bin bench [-- --repeat N]
+//!     cargo run --release --bin bench -- --once ROW RUNS plain|archive
 //!
 //! Both take turns; the least time of each counts, since whatever else the machine does only adds to it. With --repeat
 //! all is measured N times: a cell has the least times of all, and the least and the greatest ratio. Exit status 1: the
-//! two left different bytes, or the cost is not linear in the commands; 2: bad usage.
+//! two left different bytes, or the cost is not linear in the commands; 2: bad usage. With --once a row, from 0, is gone through
+//! once by one of the two, in runs of so many commands, and nothing is printed: for programs that count instructions.
 use std::process::exit;
 use std::time::Instant;
 
@@ -291,9 +293,23 @@ fn print_growth() -> bool {
     linear
 }
 
+/// The arguments of --once: a row, the commands of a run, and whether it is the archive's.
+fn once() -> Option<(usize, usize, bool)> {
+    let arguments: Vec<String> = std::env::args().skip(1).collect();
+    let [once, row, each, who] = &arguments[..] else { return None };
+    let (row, each) = (row.parse().ok()?, each.parse().ok()?);
+    let archive = ["plain", "archive"].iter().position(|name| name == who)? == 1;
+    (once == "--once" && row < ROWS.len() && each > 0).then_some((row, each, archive))
+}
+
 fn main() {
+    if let Some((row, each, archive)) = once() {
+        let case = Case::new(&ROWS[row], COMMANDS);
+        case.timed(each, 0, if archive { Hall::archive } else { Hall::plain });
+        return;
+    }
     let Some(repeat) = timing::repeat() else {
-        eprintln!("usage: bench [--repeat N]");
+        eprintln!("usage: bench [--repeat N | --once ROW RUNS plain|archive]");
         exit(2)
     };
     print_table(repeat);
