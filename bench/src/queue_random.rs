@@ -4,6 +4,9 @@ use lagumtay::queue::raw::{Receiver, Sender};
 use crate::queue::{Call, Memory};
 use crate::random::Random;
 
+/// The first record that 16 bits cannot name.
+pub const FAR: usize = 65_536;
+
 /// The last number of good bases; of others any.
 pub fn top(bases: &[u16]) -> u64 {
     bases.iter().fold(1u64, |x, &base| x.wrapping_mul(base.into())).wrapping_sub(1)
@@ -24,10 +27,12 @@ pub fn some_queue(random: &mut Random) -> Memory {
     if random.one_in(8) {
         bases = vec![256; 8];
     }
-    let n = random.of(&[1, 1, 1, 2, 2, 3, 5, 8, 17, 256]);
+    // Seldom very many records are lent; then they are short.
+    let far = random.one_in(30);
+    let n = if far { random.between(1, 2) } else { random.of(&[1, 1, 1, 2, 2, 3, 5, 8, 17, 256]) };
     let places = random.of(&[1, 1, 1, 2, 2, 3, 5, 63, 64]);
-    let records = random.of(&[0, 1, 2, 2, 3, 5]) * n;
-    let mut memory = Memory::blank(&bases, n, places, random.bytes(records));
+    let records = if far { FAR + random.between(1, 100) } else { random.of(&[0, 1, 2, 2, 3, 5]) };
+    let mut memory = Memory::blank(&bases, n, places, random.bytes(records * n));
     memory.queue = random.bytes(memory.queue.len());
     memory.buffer = random.bytes(n);
     memory.sender = Sender { serial: random.next_u64(), steps: 9, kind: 9, digits: [9; 8], index: 9 };
@@ -54,6 +59,7 @@ pub fn some_index(random: &mut Random, memory: &Memory) -> usize {
     match random.below(40) {
         0 => usize::MAX - random.below(2),
         1 => records,
+        2..=20 if records > FAR => random.between(FAR, records - 1),
         _ => random.below(records.max(1)),
     }
 }

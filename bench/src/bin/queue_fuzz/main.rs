@@ -6,20 +6,21 @@
 //! take a copy in which something is damaged, or numbers and states are made up, and the copy is dropped after a few
 //! calls. Every call goes to both, and all that was lent is compared. What the archive is lent begins right after a
 //! page that may not be touched, and in every other case ends right before one; what it may only read cannot be
-//! written. CASE replays that one alone. Exit status 1: some call differed, or many calls did not meet each answer. A
-//! touch outside of what was lent ends the program by its signal, and tells the case.
+//! written. CASE replays that one alone. Exit status 1: some call differed, or many calls did not meet each answer and
+//! a parcel from beyond record 65,535. A touch outside of what was lent ends the program by its signal, and tells the
+//! case.
 mod lending;
 
 use lagumtay_bench::guarded::{named, Side};
 use lagumtay_bench::queue::{Call, Memory};
-use lagumtay_bench::queue_random::{damage, make_up, some_call, some_index, some_queue, stand};
+use lagumtay_bench::queue_random::{damage, make_up, some_call, some_index, some_queue, stand, FAR};
 use lagumtay_bench::random::Random;
 
 use crate::lending::Lending;
 
 const MOST_SHOWN: u64 = 10;
 const ANSWERS: [u8; 10] = [0, 1, 2, 3, 6, 7, 8, 9, 13, 14];
-/// So many calls must meet every answer.
+/// So many calls must meet every answer, and a parcel from a far record.
 const MANY: u64 = 100_000;
 
 #[derive(Default)]
@@ -34,6 +35,8 @@ struct Totals {
     /// on live queues: parcels put in and copied out
     put: u64,
     out: u64,
+    /// those put in from a far record
+    far: u64,
     /// gatherings refused though there was room, or a parcel
     met: u64,
     /// last digits of a gathering that were refused, and then accepted
@@ -164,6 +167,7 @@ impl Case<'_> {
             *held = *held + put - out;
             totals.put += put as u64;
             totals.out += out as u64;
+            totals.far += u64::from(side == 0 && memory.sender.index >= FAR);
         }
     }
 
@@ -188,13 +192,14 @@ impl Case<'_> {
 }
 
 fn print_totals(totals: &Totals, cases: u64) {
-    let Totals { calls, live, functions, put, out, met, again, .. } = totals;
+    let Totals { calls, live, functions, put, out, far, met, again, .. } = totals;
     let [open, send_begin, send_step, send_cancel, receive_begin, receive_step, receive_cancel] = functions;
     println!("{calls} calls of {cases} cases, {live} of them went on with a queue; {open} of open,");
     println!("sender: {send_begin} of begin, {send_step} of step, {send_cancel} of cancel;");
     println!("receiver: {receive_begin} of begin, {receive_step} of step, {receive_cancel} of cancel");
-    println!("queues that went on: {put} parcels put in, {out} copied out; {met} gatherings were refused though");
-    println!("there was room or a parcel, and {again} refused last digits were stepped again with success");
+    println!("queues that went on: {put} parcels put in, {far} of them from beyond record 65,535, {out} copied out;");
+    println!("{met} gatherings were refused though there was room or a parcel, and {again} refused last digits were");
+    println!("stepped again with success");
     for (number, count) in totals.answers.iter().enumerate().filter(|(_, &count)| count > 0) {
         println!("answered {number}: {count}");
     }
@@ -227,8 +232,8 @@ fn compared(calls: u64, seed: u64, only: Option<u64>) -> bool {
     }
     print_totals(&totals, if only.is_some() { 1 } else { at });
     let missed = ANSWERS.iter().filter(|&&answer| totals.answers[usize::from(answer)] == 0).count();
-    if missed > 0 && totals.calls >= MANY {
-        println!("{missed} answers were not met");
+    if totals.calls >= MANY && (missed > 0 || totals.far == 0) {
+        println!("{missed} answers were not met, and {} parcels were sent from far records", totals.far);
         return false;
     }
     totals.differed == 0
