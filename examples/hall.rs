@@ -40,11 +40,18 @@ fn print(outcome: &Outcome) {
     }
 }
 
-/// Run commands and print what was read.
+/// Run commands and print what was read, also before one that is refused.
 fn run(page: &mut Page, commands: &[Command]) -> Result<(), Refusal> {
-    let ran = page.run(commands);
-    ran.outcomes.iter().for_each(print);
-    ran.ending
+    match page.run(commands) {
+        Ok(outcomes) => {
+            outcomes.iter().for_each(print);
+            Ok(())
+        }
+        Err(stopped) => {
+            stopped.outcomes.iter().for_each(print);
+            Err(stopped.refusal)
+        }
+    }
 }
 
 fn main() -> Result<(), Refusal> {

@@ -34,7 +34,7 @@ fn receive_step(queue: &mut Queue) -> Result<bool, QueueRefusal> {
         Ok(Received::CopiedOut(Serial(serial), parcel)) => {
             println!("desk:  parcel {serial} is out, release {}", name(parcel));
         }
-        Ok(Received::Ended(_)) => return Ok(true),
+        Ok(Received::Ended(..)) => return Ok(true),
         Ok(_) => {}
         Err(why) => {
             if why == QueueRefusal::QueueEmpty {

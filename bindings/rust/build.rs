@@ -19,9 +19,10 @@ const ARCHIVES: [Archive; 2] = [
 fn main() {
     println!("cargo:rerun-if-changed=build.rs");
     println!("cargo:rerun-if-env-changed=PKG_CONFIG_PATH");
-    let arch = variable("CARGO_CFG_TARGET_ARCH");
-    if arch != "x86_64" {
-        fail(&format!("the archives are x86-64 only, and this target is {arch}"));
+    let of_target = |what| variable(&format!("CARGO_CFG_TARGET_{what}"));
+    let [arch, width, os] = ["ARCH", "POINTER_WIDTH", "OS"].map(of_target);
+    if (&arch[..], &width[..]) != ("x86_64", "64") || os != "linux" {
+        fail(&format!("the archives are for x86-64 only, with Linux, and this target is {arch}, {width} bits, {os}"));
     }
     let out = PathBuf::from(variable("OUT_DIR"));
     println!("cargo:rustc-link-search=native={}", out.display());

@@ -10,7 +10,7 @@
 //! tell by an [`Outcome`] how a read ended.
 //!
 //! ```
-//! use lagumtay::{Choice, Command, Count, Format, Layout, Outcome, Page, Refusal, Version};
+//! use lagumtay::{Choice, Command, Count, Format, Layout, Outcome, Page, Version};
 //!
 //! // Hours and minutes; versions of one digit; records of 8 bytes; a board and a desk that read.
 //! let format = Format { bases: vec![24, 60], q: 1, base: 256, layout: Layout::Plain, n: 8, readers: 2 };
@@ -20,18 +20,17 @@
 //!
 //! // The board reads the first copy, 11:57; 12:04 is written meanwhile; then the board reads the second copy.
 //! page.step(Command::BeginCountRead { reader: board, choice: Choice::High })?;
-//! page.run(&[Command::ReaderStep(board); 2]).ending?;
+//! page.run(&[Command::ReaderStep(board); 2])?;
 //! page.step(Command::WriteCount(Count(12 * 60 + 4)))?;
-//! page.run(&[Command::WriterStep; 4]).ending?;
-//! let ran = page.run(&[Command::ReaderStep(board); 2]);
-//! ran.ending?;
+//! page.run(&[Command::WriterStep; 4])?;
+//! let read = page.run(&[Command::ReaderStep(board); 2])?;
 //! // The copies part: the board may show 11:59 or 12:00, and chose the high end.
-//! assert_eq!(ran.outcomes[0].shown(), Some(Count(12 * 60)));
+//! assert_eq!(read[0].shown(), Some(Count(12 * 60)));
 //!
 //! // A record is written, and the desk takes it.
 //! let steps = page.format().record_steps();
 //! page.step(Command::WriteRecord(0))?;
-//! page.run(&vec![Command::WriterStep; steps]).ending?;
+//! page.run(&vec![Command::WriterStep; steps])?;
 //! page.step(Command::BeginRecordRead { reader: desk, attempts: 3 })?;
 //! loop {
 //!     match page.step(Command::ReaderStep(desk))? {
@@ -44,7 +43,7 @@
 //!         Outcome::Shown { .. } | Outcome::Between { .. } => unreachable!("the desk reads no counts"),
 //!     }
 //! }
-//! # Ok::<(), Refusal>(())
+//! # Ok::<(), Box<dyn std::error::Error>>(())
 //! ```
 //!
 //! A count read that meets a write may end as [`Outcome::Between`] two counts. Then a read begun with [`Choice::Low`],
@@ -151,6 +150,6 @@ pub use outcome::Outcome;
 pub use page::Page;
 pub use refusal::Refusal;
 #[cfg(feature = "alloc")]
-pub use run::Ran;
+pub use run::Stopped;
 #[cfg(feature = "alloc")]
 pub use state::{Reading, Writing};

@@ -17,10 +17,9 @@
 //!
 //! queue.receive_begin()?;
 //! loop {
-//!     match queue.receive_step()? {
-//!         Received::CopiedOut(serial, parcel) => assert_eq!((serial.0, parcel), (0, &b"batch 17"[..])),
-//!         Received::Ended(_) => break,
-//!         Received::Gathered | Received::Moved | Received::Wrote => {}
+//!     if let Received::Ended(serial, parcel) = queue.receive_step()? {
+//!         assert_eq!((serial.0, parcel), (0, &b"batch 17"[..]));
+//!         break;
 //!     }
 //! }
 //! # Ok::<(), QueueRefusal>(())

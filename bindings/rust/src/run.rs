@@ -5,49 +5,84 @@
 //! each reader ends at most one read in a piece: its buffer is as that read left it when the piece has ended, its
 //! choice is known, and a log with one entry for each reader never fills.
 use alloc::vec::Vec;
+use core::{error, fmt};
 
 use crate::command::append;
 use crate::raw::{LONGEST_ENTRY, MOST_READERS};
 use crate::refusal::ending;
 use crate::{Choice, Command, Entries, Outcome, Page, Reading, Refusal};
 
-/// How a run went.
-#[must_use = "a command may have been refused, and outcomes have the records that were accepted"]
+/// A run that stopped at a refused command. It has changed nothing; what was carried out before it is done, and what was
+/// read is here. It is not turned into its [`Refusal`] by `?`, so that no accepted record is lost on the way.
 #[derive(Clone, Debug, PartialEq, Eq)]
-pub struct Ran {
+pub struct Stopped {
     /// The commands carried out.
     pub done: usize,
-    /// How reads ended, in order; [`Outcome::Nothing`] is not among them.
+    /// How reads ended before the refused command, in order.
     pub outcomes: Vec<Outcome>,
-    /// The refusal of the command after those carried out.
-    pub ending: Result<(), Refusal>,
+    /// Why the command after those carried out was refused.
+    pub refusal: Refusal,
+}
+
+impl fmt::Display for Stopped {
+    fn fmt(&self, f: &mut fmt::Formatter) -> fmt::Result {
+        write!(f, "the run stopped after {} commands: {}", self.done, self.refusal)
+    }
+}
+
+impl error::Error for Stopped {
+    fn source(&self) -> Option<&(dyn error::Error + 'static)> {
+        Some(&self.refusal)
+    }
 }
 
 impl Page {
-    /// Carry out commands up to the first that is refused; the refusals are those of [`Page::step`]. The refused one
-    /// has changed nothing, and the ones before it have been carried out, each as by a step. An accepted record is in
-    /// its outcome, whatever its reader did after.
-    pub fn run(&mut self, commands: &[Command]) -> Ran {
-        let mut ran = Ran { done: 0, outcomes: Vec::new(), ending: Ok(()) };
-        let mut bytes = Vec::new();
-        while ran.ending.is_ok() && ran.done < commands.len() {
-            self.run_piece(&commands[ran.done..], &mut bytes, &mut ran);
+    /// Carry out commands up to the first that is refused; tells how reads ended, in order, without
+    /// [`Outcome::Nothing`]. Each command is carried out as by a step, and refused as by one ([`Page::step`]). An
+    /// accepted record is in its outcome, whatever its reader did after; those before a refused command are in
+    /// [`Stopped`].
+    ///
+    /// ```
+    /// use lagumtay::{Command, Count, Format, Layout, Outcome, Page, Refusal, Stopped, Version};
+    ///
+    /// let format = Format { bases: vec![10], q: 1, base: 10, layout: Layout::Plain, n: 2, readers: 1 };
+    /// let mut page = Page::open(format, Count(4), b"aa")?;
+    /// let read = [&[Command::BeginRecordRead { reader: 0, attempts: 1 }][..], &[Command::ReaderStep(0); 4]].concat();
+    /// let told = vec![Outcome::Accepted { reader: 0, attempts: 1, version: Version(0), record: b"aa".to_vec() }];
+    /// assert_eq!(page.run(&read), Ok(told.clone()));
+    /// // One step too many: it is refused, and what was read before it is not lost.
+    /// let stopped = page.run(&[read, vec![Command::ReaderStep(0)]].concat());
+    /// assert_eq!(stopped, Err(Stopped { done: 5, outcomes: told, refusal: Refusal::NothingPending }));
+    /// # Ok::<(), Refusal>(())
+    /// ```
+    pub fn run(&mut self, commands: &[Command]) -> Result<Vec<Outcome>, Stopped> {
+        let (mut done, mut outcomes, mut bytes) = (0, Vec::new(), Vec::new());
+        while done < commands.len() {
+            let (carried_out, ended) = self.run_piece(&commands[done..], &mut bytes, &mut outcomes);
+            done += carried_out;
+            if let Err(refusal) = ended {
+                return Err(Stopped { done, outcomes, refusal });
+            }
         }
-        ran
+        Ok(outcomes)
     }
 
-    /// Run the first piece of these commands, of which there is one at least. What `bytes` holds does not matter.
-    fn run_piece(&mut self, commands: &[Command], bytes: &mut Vec<u8>, ran: &mut Ran) {
+    /// Run the first piece of these commands, of which there is one at least; gives how many were carried out. What
+    /// `bytes` holds does not matter.
+    fn run_piece(
+        &mut self,
+        commands: &[Command],
+        bytes: &mut Vec<u8>,
+        outcomes: &mut Vec<Outcome>,
+    ) -> (usize, Result<(), Refusal>) {
         let mut reads = Reads::unfinished(self);
         bytes.clear();
         commands[..reads.piece(commands)].iter().for_each(|&command| append(command, bytes));
         let mut log = [0; MOST_READERS * LONGEST_ENTRY];
         let (answer, number) = self.lend(|lent, records| lent.run(records, bytes, &mut log));
-        ran.done += answer.done;
-        ran.outcomes.extend(
-            Entries::new(&log[..answer.written]).map(|entry| self.outcome(entry, reads.choice(entry.reader()))),
-        );
-        ran.ending = ending(number);
+        let entries = Entries::new(&log[..answer.written]);
+        outcomes.extend(entries.map(|entry| self.outcome(entry, reads.choice(entry.reader()))));
+        (answer.done, ending(number))
     }
 }
 

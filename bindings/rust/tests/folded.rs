@@ -9,7 +9,7 @@ use common::memory::Memory;
 use common::{accepted, begin, begin_record, go, steps};
 use lagumtay::raw::{LONGEST_ENTRY, PACKED};
 use lagumtay::Command::*;
-use lagumtay::{Choice, Command, Count, Entries, Entry, Format, Layout, Outcome, Page, Reading, Refusal};
+use lagumtay::{Choice, Command, Count, Entries, Entry, Format, Layout, Outcome, Page, Reading, Refusal, Stopped};
 
 fn format(bases: &[u16]) -> Format {
     common::format(Layout::Folded, bases)
@@ -330,11 +330,14 @@ fn replayed(input: &Recorded) -> String {
         list.push(command);
         rest = &rest[length..];
     }
-    let ran = page.run(&list);
+    let (done, outcomes, refusal) = match page.run(&list) {
+        Ok(outcomes) => (list.len(), outcomes, None),
+        Err(Stopped { done, outcomes, refusal }) => (done, outcomes, Some(refusal)),
+    };
     let unknown = (!rest.is_empty()).then_some(Refusal::UnknownCommand);
     let buffers: Vec<u8> = (0..16).flat_map(|reader| page.buffer(reader).unwrap_or_default().to_vec()).collect();
-    let lines: String = ran.outcomes.iter().map(line_of).collect();
-    lines + &end(ran.done, ran.ending.err().or(unknown), page.bytes(), &buffers)
+    let lines: String = outcomes.iter().map(line_of).collect();
+    lines + &end(done, refusal.or(unknown), page.bytes(), &buffers)
 }
 
 #[test]

@@ -4,7 +4,7 @@ mod common;
 use common::{accepted, begin, begin_high, begin_record, between, go, shown, steps};
 use lagumtay::Command::*;
 use lagumtay::{
-    commands, raw, Choice, Command, Count, Entries, Entry, Format, Layout, Outcome, Page, Ran, Reading, Refusal,
+    commands, raw, Choice, Command, Count, Entries, Entry, Format, Layout, Outcome, Page, Reading, Refusal, Stopped,
     Version, Writing,
 };
 
@@ -284,7 +284,7 @@ fn a_page_keeps_the_choice() {
 #[test]
 fn ends_with_the_first_refused_command() {
     let mut page = opened(&[10], 4);
-    let refused = |done, why| Ran { done, outcomes: vec![], ending: Err(why) };
+    let refused = |done, refusal| Err(Stopped { done, outcomes: vec![], refusal });
     for (command, why) in [
         (WriteCount(Count(10)), Refusal::CountTooLarge),
         (WriteCount(Count(3)), Refusal::CountDecreases),

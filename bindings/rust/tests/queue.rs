@@ -21,14 +21,17 @@ fn send(queue: &mut Queue, index: usize) -> Serial {
     }
 }
 
-/// A whole receiving: the parcels that were given out.
+/// A whole receiving: the parcels that were given out, which the end tells once more.
 fn receive(queue: &mut Queue) -> Vec<(Serial, Vec<u8>)> {
     let mut parcels = Vec::new();
     queue.receive_begin().unwrap();
     loop {
         match queue.receive_step().unwrap() {
             Received::CopiedOut(serial, parcel) => parcels.push((serial, parcel.to_vec())),
-            Received::Ended(_) => return parcels,
+            Received::Ended(serial, parcel) => {
+                assert_eq!(parcels.last(), Some(&(serial, parcel.to_vec())));
+                return parcels;
+            }
             _ => {}
         }
     }
@@ -82,7 +85,7 @@ fn tells_what_each_step_did() {
         Received::Moved,
         Received::CopiedOut(Serial(0), b"ghi"),
         Received::Wrote,
-        Received::Ended(Serial(0)),
+        Received::Ended(Serial(0), b"ghi"),
     ] {
         assert_eq!(queue.receive_step(), Ok(expected));
     }

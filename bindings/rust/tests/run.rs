@@ -5,7 +5,7 @@ mod common;
 use common::random::Random;
 use common::*;
 use lagumtay::Command::*;
-use lagumtay::{Choice, Command, Count, Format, Layout, Outcome, Page, Ran, Refusal};
+use lagumtay::{Choice, Command, Count, Format, Layout, Outcome, Page, Refusal, Stopped};
 
 /// A record that is told by its number alone.
 fn record(k: u8) -> Vec<u8> {
@@ -71,7 +71,7 @@ fn sixteen_readers_have_room() {
 #[test]
 fn nothing_is_run_of_nothing() {
     let mut page = opened(Layout::Plain, &[10], 4);
-    assert_eq!(page.run(&[]), Ran { done: 0, outcomes: vec![], ending: Ok(()) });
+    assert_eq!(page.run(&[]), Ok(vec![]));
     assert_eq!(page, opened(Layout::Plain, &[10], 4));
 }
 
@@ -80,10 +80,9 @@ fn nothing_is_run_of_nothing() {
 fn a_refused_second_read_ends_the_run() {
     for second in [begin(0), begin_high(0), begin_record(0, 1)] {
         let mut page = opened(Layout::Plain, &[10], 4);
-        let ran = page.run(&[begin(1), begin(0), ReaderStep(0), second, ReaderStep(1)]);
-        assert_eq!((ran.done, ran.ending), (3, Err(Refusal::Busy)));
-        let ran = page.run(&[second, ReaderStep(1)]);
-        assert_eq!((ran.done, ran.ending), (0, Err(Refusal::Busy)));
+        let busy = |done| Err(Stopped { done, outcomes: vec![], refusal: Refusal::Busy });
+        assert_eq!(page.run(&[begin(1), begin(0), ReaderStep(0), second, ReaderStep(1)]), busy(3));
+        assert_eq!(page.run(&[second, ReaderStep(1)]), busy(0));
     }
 }
 
@@ -117,27 +116,26 @@ fn some_command(random: &mut Random, format: &Format) -> Command {
 
 /// A list of commands with what they come to one at a time, after which the page is as they leave it. Of refused ones
 /// most are left out; one that stays ends the run, with others behind it that are not carried out.
-fn some_run(random: &mut Random, page: &mut Page) -> (Vec<Command>, Ran) {
+fn some_run(random: &mut Random, page: &mut Page) -> (Vec<Command>, Result<Vec<Outcome>, Stopped>) {
     let format = page.format().clone();
-    let (mut list, mut ran) = (Vec::new(), Ran { done: 0, outcomes: Vec::new(), ending: Ok(()) });
+    let (mut list, mut outcomes) = (Vec::new(), Vec::new());
     while list.len() < 150 {
         let command = some_command(random, &format);
         match page.step(command) {
             Ok(outcome) => {
                 list.push(command);
-                ran.done += 1;
-                ran.outcomes.extend((outcome != Outcome::Nothing).then_some(outcome));
+                outcomes.extend((outcome != Outcome::Nothing).then_some(outcome));
             }
-            Err(why) if random.below(600) == 0 => {
+            Err(refusal) if random.below(600) == 0 => {
+                let done = list.len();
                 list.push(command);
-                ran.ending = Err(why);
                 list.extend((0..10).map(|_| some_command(random, &format)));
-                break;
+                return (list, Err(Stopped { done, outcomes, refusal }));
             }
             Err(_) => {}
         }
     }
-    (list, ran)
+    (list, Ok(outcomes))
 }
 
 /// The records that these commands begin to write are the next versions.
@@ -166,8 +164,12 @@ fn a_run_is_what_its_commands_are_one_at_a_time() {
             let ran = page.run(&list);
             assert_eq!(ran, expected, "{list:?}");
             assert_eq!(page, stepped, "{list:?}");
-            note_versions(&mut written, &page, &list[..ran.done]);
-            for outcome in &ran.outcomes {
+            let (done, outcomes) = match &ran {
+                Ok(outcomes) => (list.len(), outcomes),
+                Err(stopped) => (stopped.done, &stopped.outcomes),
+            };
+            note_versions(&mut written, &page, &list[..done]);
+            for outcome in outcomes {
                 match outcome {
                     Outcome::Accepted { version, record, .. } => {
                         assert_eq!(*record, written[version.0 as usize], "{list:?}");
@@ -177,7 +179,7 @@ fn a_run_is_what_its_commands_are_one_at_a_time() {
                     _ => {}
                 }
             }
-            refused += u32::from(ran.ending.is_err());
+            refused += u32::from(ran.is_err());
         }
     }
     // So many of each that none of the three is tried by chance alone.

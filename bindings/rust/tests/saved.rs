@@ -105,7 +105,7 @@ fn runs_on(page: &mut Page) {
     for command in [&[WriterStep; 2][..], &list, &[WriteCount(Count(0)), WriteRecord(0), WriterStep]].concat() {
         mild(page.step(command).map(|_| ()));
     }
-    mild(page.run(&list).ending);
+    mild(page.run(&list).map(|_| ()).map_err(|stopped| stopped.refusal));
 }
 
 /// How other bytes fare: restored to a page that has them all and goes on, or refused by one of these.
@@ -219,8 +219,8 @@ fn crossed_copies_can_be_cancelled() {
     saved[c1 + 1] = 3;
     let mut page = Page::restore(&saved).unwrap();
     assert_eq!(page.step(ReaderStep(0)), Err(Refusal::CopiesCrossed));
-    let ran = page.run(&[begin(1), ReaderStep(0)]);
-    assert_eq!((ran.done, ran.ending), (1, Err(Refusal::CopiesCrossed)));
+    let stopped = page.run(&[begin(1), ReaderStep(0)]).unwrap_err();
+    assert_eq!((stopped.done, stopped.refusal), (1, Refusal::CopiesCrossed));
     assert_eq!(page.step(Cancel(0)), Ok(Outcome::Nothing));
 }
 

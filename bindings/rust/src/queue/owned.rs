@@ -120,7 +120,7 @@ impl Queue {
             Motion::Byte => Received::Moved,
             Motion::LastByte => Received::CopiedOut(serial, &self.buffer),
             Motion::OwnDigit => Received::Wrote,
-            Motion::LastDigit => Received::Ended(serial),
+            Motion::LastDigit => Received::Ended(serial, &self.buffer),
         })
     }
 

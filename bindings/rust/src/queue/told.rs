@@ -29,10 +29,10 @@ pub enum Received<'a> {
     Gathered,
     /// A byte of the parcel was moved, and more are to come.
     Moved,
-    /// The last byte was moved: here is the parcel, whole. It is given out at this step alone.
+    /// The last byte was moved: here is the parcel, whole.
     CopiedOut(Serial, &'a [u8]),
     /// A digit of the number received was written.
     Wrote,
-    /// The last digit was written: the receiving has ended.
-    Ended(Serial),
+    /// The last digit was written: the receiving has ended. Here is the parcel once more.
+    Ended(Serial, &'a [u8]),
 }
