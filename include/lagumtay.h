@@ -201,7 +201,8 @@ enum lagumtay_refusal {
     LAGUMTAY_BAD_FORMAT = 1,         /* a number of the format is outside its range */
     LAGUMTAY_WRONG_LENGTH = 2,       /* page, readers, buffers or record differ in length from the format; the records
                                         are no multiple of n; the packed bytes are not 28 for each reader */
-    LAGUMTAY_INVALID_STATE = 3,      /* a digit at or above its base, or a state that no steps could hold */
+    LAGUMTAY_INVALID_STATE = 3,      /* a digit at or above its base, or a state that no steps could hold; also a
+                                        pending record write whose record is not among those that are lent */
     LAGUMTAY_COUNT_TOO_LARGE = 4,    /* a count not below the product of the bases */
     LAGUMTAY_COUNT_DECREASES = 5,    /* a count below the one in c2, to which a shared digit belongs */
     LAGUMTAY_BUSY = 6,               /* a write is pending, or this reader has a read unfinished */
@@ -287,6 +288,11 @@ uint8_t lagumtay_cancel(const lagumtay_format *format, const uint16_t *bases, si
                         const uint8_t *buffers, size_t buffers_len, const uint8_t *records, size_t records_len,
                         uint8_t who);
 
+/* TO SAVE A PAGE AND GO ON LATER: keep its format and bases, the page, the writer, the readers (lagumtay_pack makes bytes
+ * of them that are the same on any machine), the buffers, and, if a record write is pending, the records. A run of no
+ * commands over what was restored answers 1 to 3 if it cannot be what runs left. It answers 0 for some memory that
+ * nobody opened too, all zeros among it: what is promised is promised from an opening. */
+
 /* Put readers' states into bytes, 28 for each: kind, allowed, finished, choice, steps (8 bytes, high byte first), 16
  * digits. It checks only that there are so many bytes; if not, it answers refusal 2 and writes nothing. Any states can
  * be packed.
@@ -337,7 +343,8 @@ uint8_t lagumtay_unpack(lagumtay_reader *readers, size_t readers_len, const uint
  * began with. Demand.antt, `stateAfter`. */
 
 /* No run is refused by 1, 3 or 10, and by 2 exactly if the records are no multiple of n: another such answer says
- * that something that was lent has been written by somebody else. Demand.antt, `Mild`. */
+ * that something that was lent has been written by somebody else, or that the record of a pending write is no longer
+ * lent. Demand.antt, `Mild`. */
 
 /* The archive was built with these sizes and offsets. */
 LAGUMTAY_ASSERT(sizeof(lagumtay_format) == 32);

@@ -1,4 +1,5 @@
-/* What lagumtay.h and lagumtay_queue.h share: the machine that the archives are for, and the version. */
+/* What lagumtay.h and lagumtay_queue.h share: the machine that the archives are for, and the version. The headers are
+ * C11, and C++11. */
 #ifndef LAGUMTAY_BASE_H
 #define LAGUMTAY_BASE_H
 

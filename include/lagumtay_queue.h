@@ -24,7 +24,7 @@
 extern "C" {
 #endif
 
-/* The ranges of a queue's numbers: m places of a base each, parcels of n bytes, places for so many parcels. Each is at
+/* The ranges of a queue's numbers: m digits of a base each, parcels of n bytes, places for so many parcels. Each is at
  * least 1, and a base at least 2.
  * crates/queue/specs/Form.antt, `goodForm`. */
 enum {
