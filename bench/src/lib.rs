@@ -1,7 +1,7 @@
 //! The page and the queue in plain Rust beside the proved archives: what the benches measure and the fuzz programs
 //! compare.
 
-pub mod answered;
+pub mod asked;
 pub mod guarded;
 pub mod lendable;
 pub mod owned;

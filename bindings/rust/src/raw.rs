@@ -316,7 +316,15 @@ impl Lent<'_> {
     pub fn run(&mut self, records: &[u8], commands: &[u8], log: &mut [u8]) -> (Answer, u8) {
         // No answer that a run gives, so that one that is not written is seen.
         let mut answer = Answer { done: usize::MAX, written: usize::MAX, taken: usize::MAX };
-        let ending = unsafe {
+        let ending = self.run_into(records, commands, log, &mut answer);
+        (answer, ending)
+    }
+
+    /// [`Lent::run`] with the answer lent too, whatever it holds.
+    #[must_use = "it may be refused"]
+    #[inline] // as `run`
+    pub fn run_into(&mut self, records: &[u8], commands: &[u8], log: &mut [u8], answer: &mut Answer) -> u8 {
+        unsafe {
             call!(
                 lagumtay_run,
                 self,
@@ -326,10 +334,9 @@ impl Lent<'_> {
                 commands.len(),
                 log.as_mut_ptr(),
                 log.len(),
-                &mut answer
+                answer
             )
-        };
-        (answer, ending)
+        }
     }
 
     /// `lagumtay_step`: carry out one command over these records and tell how it ended, with no log. Refused as a run
@@ -340,8 +347,15 @@ impl Lent<'_> {
         // No outcome that a step has, so that one that is not written is seen.
         let ([kind, reader, attempts, choice], [count, low, high]) = ([255; 4], [u64::MAX; 3]);
         let mut outcome = Outcome { kind, reader, attempts, choice, version: u32::MAX, count, low, high };
-        let ending = unsafe { call!(lagumtay_step, self, records.as_ptr(), records.len(), command, &mut outcome) };
+        let ending = self.step_into(records, command, &mut outcome);
         (outcome, ending)
+    }
+
+    /// [`Lent::step`] with the outcome lent too, whatever it holds.
+    #[must_use = "it may be refused"]
+    #[inline] // as `run`
+    pub fn step_into(&mut self, records: &[u8], command: &Command, outcome: &mut Outcome) -> u8 {
+        unsafe { call!(lagumtay_step, self, records.as_ptr(), records.len(), command, outcome) }
     }
 
     /// `lagumtay_cancel`: drop the read of one reader, whose buffer keeps its bytes. Refused by [`Refusal::BadFormat`],

@@ -5,7 +5,6 @@
 //! readers' states a call may write those that it carries something out for: there no promise speaks of the padding.
 //! Every other state keeps its padding too, so that a refused call alters no byte that is lent.
 use lagumtay::raw::{self, Answer, Command, Format, Lent, Outcome, Reader, Writer};
-use lagumtay_bench::answered;
 use lagumtay_bench::guarded::Access::{Read, Write};
 use lagumtay_bench::guarded::{Guarded, Manner};
 
@@ -91,13 +90,13 @@ impl Lending {
                 let commands = self.commands.lend(manner, &call.commands, Read);
                 let log = self.log.lend(manner, &call.log, Write);
                 let answer = &mut self.answer.lend(manner, &[NO_ANSWER], Write)[0];
-                let ending = answered::run(lent, records, commands, log, answer);
+                let ending = lent.run_into(records, commands, log, answer);
                 Told::answer(*answer, ending)
             }
             Function::Step => {
                 let command = &self.command.lend(manner, &[call.command], Read)[0];
                 let outcome = &mut self.outcome.lend(manner, &[NO_OUTCOME], Write)[0];
-                let ending = answered::step(lent, records, command, outcome);
+                let ending = lent.step_into(records, command, outcome);
                 Told::outcome(*outcome, ending)
             }
             _ => Told::nothing(lent.cancel(records, call.who)),
