@@ -1,2 +1,0 @@
--- Proofs of rack: Walks is what the proofs by hand share.
-pub mod Walks
