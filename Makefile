@@ -47,9 +47,8 @@ fill = sed -e 's|@NAME@|$(3)|' -e 's|@DESCRIPTION@|$(DESCRIPTION_$(3))|' -e 's|@
 .PHONY: all test install uninstall clean kit paths built
 
 all: kit
-	$(RT) check
-	$(RT) staticlib lagumtay
-	$(RT) staticlib lagumtay_queue
+	$(RT) all check
+	RT='$(RT)' tools/build
 
 test: kit
 	tests/run
@@ -90,4 +89,4 @@ built:
 	done
 
 clean:
-	rm -rf target bindings/rust/target bench/target tests/no_std/target
+	rm -rf target crates/*/out bindings/rust/target bench/target tests/no_std/target

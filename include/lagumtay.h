@@ -47,7 +47,7 @@ enum lagumtay_choice { LAGUMTAY_LOW = 0, LAGUMTAY_HIGH = 1 };
 
 /* The ranges of a page's numbers: m count places of a base each, q version places of one base, n bytes of record, so
  * many readers; and of the attempts that a record read is allowed. Each is at least 1, and a base at least 2.
- * crates/protocol/specs/Form.antt, `goodForm`. */
+ * crates/protocol/specs/Form.antt, `good_form`. */
 enum {
     LAGUMTAY_MAX_M = 8,
     LAGUMTAY_MAX_Q = 4,
@@ -119,7 +119,7 @@ enum { LAGUMTAY_PACKED = 28 };
 
 /* The numbers of a page but for the m count bases, which are lent beside it: q version places of this base, the layout
  * (LAGUMTAY_PLAIN or LAGUMTAY_FOLDED), n bytes of record, so many readers. The constants above have the ranges.
- * crates/protocol/specs/Form.antt, `goodForm`. */
+ * crates/protocol/specs/Form.antt, `good_form`. */
 typedef struct {
     size_t q;
     uint16_t base;
@@ -131,7 +131,7 @@ typedef struct {
 /* The writer's state. kind 0: nothing pending; 1: a count; 2: a record (enum lagumtay_writer_kind). Steps are those
  * taken of the pending write; a count write has 2m of them, on a folded page 2m - 1. Fields that the kind does not use
  * are zero.
- * crates/protocol/specs/Memory.antt, `storedWriting`. */
+ * crates/protocol/specs/Memory.antt, `stored_writing`. */
 typedef struct {
     uint64_t count;
     size_t index;
@@ -148,7 +148,7 @@ typedef struct {
  * digits[m - 1]: digits[8 + m - 1] is zero there. The four bytes before steps are padding and hold nothing; no promise
  * speaks of them. The choice lies in what was padding: who was compiled with the older header, in which that byte held
  * nothing, must be compiled anew.
- * crates/protocol/specs/Memory.antt, `storedReading`. */
+ * crates/protocol/specs/Memory.antt, `stored_reading`. */
 typedef struct {
     uint8_t kind;
     uint8_t allowed;
@@ -160,7 +160,7 @@ typedef struct {
 
 /* What a run tells beside its refusal: commands carried out, bytes written into the log, and bytes taken of the
  * commands: those of the commands carried out, so that a refused one begins there.
- * crates/lagumtay/specs/Run.antt, `answerOf`; crates/page/specs/Calls.antt, `bytesOf`. */
+ * crates/lagumtay/specs/Run.antt, `answer_of`; crates/page/specs/Calls.antt, `bytes_of`. */
 typedef struct {
     size_t done;
     size_t written;
@@ -169,7 +169,7 @@ typedef struct {
 
 /* A command for a step, by the kinds of the commands' bytes, which lagumtay_run lists: 1 to 7 and 0x0D (enum
  * lagumtay_command_kind). A field that its kind does not ask for is not looked at. lagumtay_helpers.h makes them.
- * crates/lagumtay/specs/Step.antt, `commandOf`. */
+ * crates/lagumtay/specs/Step.antt, `command_of`. */
 typedef struct {
     uint8_t kind;
     uint8_t reader;
@@ -182,7 +182,7 @@ typedef struct {
  * finished; 1: a count shown; 2: a record accepted; 3: a read gave up; 4: between two counts, the low end and the high
  * end, and the choice with which the read was begun, which no other kind tells. Fields that the kind does not have are
  * zero. The choice lies in what was padding: who was compiled with the older header must be compiled anew.
- * crates/lagumtay/specs/Step.antt, `entryOf`. */
+ * crates/lagumtay/specs/Step.antt, `entry_of`. */
 typedef struct {
     uint8_t kind;
     uint8_t reader;
@@ -195,7 +195,7 @@ typedef struct {
 } lagumtay_outcome;
 
 /* The refusals. Checks go 1, 2, 3, 11, 8, 6 or 7, 4, 5, 9, 10, 12; the first that applies is answered.
- * crates/protocol/specs/Outcome.antt, `refusalNumber`; the order is that of the definitions below. */
+ * crates/protocol/specs/Outcome.antt, `refusal_number`; the order is that of the definitions below. */
 enum lagumtay_refusal {
     LAGUMTAY_OK = 0,
     LAGUMTAY_BAD_FORMAT = 1,         /* a number of the format is outside its range */
@@ -223,8 +223,8 @@ enum lagumtay_refusal {
  *   readers  as many as the format says
  *   buffers  n bytes for each reader, one after the other
  *   record   n bytes
- * crates/protocol/specs/Run.antt, `openPage`; State.antt, `opened`; this call: crates/lagumtay/specs/Calls.antt,
- * `openCall`. */
+ * crates/protocol/specs/Run.antt, `open_page`; State.antt, `opened`; this call: crates/lagumtay/specs/Calls.antt,
+ * `open_call`. */
 uint8_t lagumtay_open(const lagumtay_format *format, const uint16_t *bases, size_t m, uint8_t *page, size_t page_len,
                       lagumtay_writer *writer, lagumtay_reader *readers, size_t readers_len, uint8_t *buffers,
                       size_t buffers_len, uint64_t count, const uint8_t *record, size_t record_len);
@@ -262,8 +262,8 @@ uint8_t lagumtay_open(const lagumtay_format *format, const uint16_t *bases, size
  * nothing: take the entries, and run the commands from `taken` on with an empty log.
  *
  * crates/protocol/specs/Run.antt, `run`; commands: Command.antt, `decode`; one command: Step.antt, `carry`; log
- * entries: Outcome.antt, `entry`; refusal 3: Load.antt, `validMemory`; this call: crates/lagumtay/specs/Run.antt,
- * `runCall`. */
+ * entries: Outcome.antt, `entry`; refusal 3: Load.antt, `valid_memory`; this call: crates/lagumtay/specs/Run.antt,
+ * `run_call`. */
 uint8_t lagumtay_run(const lagumtay_format *format, const uint16_t *bases, size_t m, uint8_t *page, size_t page_len,
                      lagumtay_writer *writer, lagumtay_reader *readers, size_t readers_len, uint8_t *buffers,
                      size_t buffers_len, const uint8_t *records, size_t records_len, const uint8_t *commands,
@@ -273,7 +273,7 @@ uint8_t lagumtay_run(const lagumtay_format *format, const uint16_t *bases, size_
  * 12 is never answered. A kind other than 1 to 7 and 0x0D is refusal 11, after 1 to 3. A refused step changes nothing
  * but the outcome, which it makes kind 0.
  *   records   as for lagumtay_run
- * crates/protocol/specs/Step.antt, `carry`; this call: crates/lagumtay/specs/Step.antt, `stepCall`, with `stepLent` of
+ * crates/protocol/specs/Step.antt, `carry`; this call: crates/lagumtay/specs/Step.antt, `step_call`, with `step_lent` of
  * crates/page/specs/Calls.antt. */
 uint8_t lagumtay_step(const lagumtay_format *format, const uint16_t *bases, size_t m, uint8_t *page, size_t page_len,
                       lagumtay_writer *writer, lagumtay_reader *readers, size_t readers_len, uint8_t *buffers,
@@ -282,7 +282,7 @@ uint8_t lagumtay_step(const lagumtay_format *format, const uint16_t *bases, size
 
 /* Cancel the read of one reader: the step of command 07. The reader is idle then, and its buffer keeps its bytes; only
  * its state is written. Refusals 1, 2, 3, 8 and 7, in this order; a refused one changes nothing.
- * crates/protocol/specs/Step.antt, `carry` of `Cancel`; this call: crates/lagumtay/specs/Calls.antt, `cancelCall`. */
+ * crates/protocol/specs/Step.antt, `carry` of `Cancel`; this call: crates/lagumtay/specs/Calls.antt, `cancel_call`. */
 uint8_t lagumtay_cancel(const lagumtay_format *format, const uint16_t *bases, size_t m, const uint8_t *page,
                         size_t page_len, const lagumtay_writer *writer, lagumtay_reader *readers, size_t readers_len,
                         const uint8_t *buffers, size_t buffers_len, const uint8_t *records, size_t records_len,
@@ -296,15 +296,15 @@ uint8_t lagumtay_cancel(const lagumtay_format *format, const uint16_t *bases, si
 /* Put readers' states into bytes, 28 for each: kind, allowed, finished, choice, steps (8 bytes, high byte first), 16
  * digits. It checks only that there are so many bytes; if not, it answers refusal 2 and writes nothing. Any states can
  * be packed.
- * crates/codec/specs/Packed.antt, `packed`; crates/packed/specs/States.antt, `packAll`; this call:
- * crates/lagumtay/specs/Calls.antt, `packCall`. */
+ * crates/codec/specs/Packed.antt, `packed`; crates/packed/specs/States.antt, `pack_all`; this call:
+ * crates/lagumtay/specs/Calls.antt, `pack_call`. */
 uint8_t lagumtay_pack(const lagumtay_reader *readers, size_t readers_len, uint8_t *bytes, size_t bytes_len);
 
 /* Take readers' states out of bytes, the other way round: what was packed is there again, field by field. It checks the
  * length as lagumtay_pack does. Any bytes can be unpacked; a state that no steps could hold is refused by the next run,
  * step or cancel, by 3.
- * crates/codec/specs/Packed.antt, `unpacked`; crates/packed/specs/States.antt, `unpackAll`; this call:
- * crates/lagumtay/specs/Calls.antt, `unpackCall`. */
+ * crates/codec/specs/Packed.antt, `unpacked`; crates/packed/specs/States.antt, `unpack_all`; this call:
+ * crates/lagumtay/specs/Calls.antt, `unpack_call`. */
 uint8_t lagumtay_unpack(lagumtay_reader *readers, size_t readers_len, const uint8_t *bytes, size_t bytes_len);
 
 /* WHAT IS PROMISED over all runs from an accepted opening, with the same format, nobody else writing what is lent, no
@@ -340,7 +340,7 @@ uint8_t lagumtay_unpack(lagumtay_reader *readers, size_t readers_len, const uint
  * `Writes`. */
 
 /* A refused command changes nothing: what a run leaves is the state after its last command carried out, or what it
- * began with. Demand.antt, `stateAfter`. */
+ * began with. Demand.antt, `state_after`. */
 
 /* No run is refused by 1, 3 or 10, and by 2 exactly if the records are no multiple of n: another such answer says
  * that something that was lent has been written by somebody else, or that the record of a pending write is no longer

@@ -26,7 +26,7 @@ extern "C" {
 
 /* The ranges of a queue's numbers: m digits of a base each, parcels of n bytes, places for so many parcels. Each is at
  * least 1, and a base at least 2.
- * crates/queue/specs/Form.antt, `goodForm`. */
+ * crates/queue/specs/Form.antt, `good_form`. */
 enum {
     LAGUMTAY_QUEUE_MAX_M = 8,
     LAGUMTAY_QUEUE_MIN_BASE = 2,
@@ -47,7 +47,7 @@ enum lagumtay_queue_kind { LAGUMTAY_QUEUE_IDLE = 0, LAGUMTAY_QUEUE_ACTS = 1 };
  * The constants above have the ranges. The queue's bytes are sent (m digits), received (m digits), and the places (n
  * bytes each), 2m + places * n in all. Both numbers have the same bases, and their leftmost digit counts most; they
  * tell how many parcels were sent and received. Parcel number i, from 0, goes to place i mod places.
- * crates/queue/specs/Form.antt, `goodForm`. */
+ * crates/queue/specs/Form.antt, `good_form`. */
 typedef struct {
     size_t n;
     size_t places;
@@ -57,7 +57,7 @@ typedef struct {
  * serial. Steps are those taken of it, of 2m + n: m gather the digits of received, left to right; n put the record's
  * bytes in; m write serial + 1 into sent, right to left. Digits gathered stand from digits[0] on, until the last of
  * them is; those not gathered are zero.
- * crates/queue/specs/State.antt; Valid.antt, `validSender`. */
+ * crates/queue/specs/State.antt; Valid.antt, `valid_sender`. */
 typedef struct {
     uint64_t serial;
     size_t steps;
@@ -68,7 +68,7 @@ typedef struct {
 
 /* The receiver's state: as the sender's. Of a receiving m steps gather the digits of sent, n copy a parcel's bytes into
  * the buffer, m write serial + 1 into received.
- * crates/queue/specs/State.antt; Valid.antt, `validReceiver`. */
+ * crates/queue/specs/State.antt; Valid.antt, `valid_receiver`. */
 typedef struct {
     uint64_t serial;
     size_t steps;
@@ -95,7 +95,7 @@ enum lagumtay_queue_refusal {
 
 /* Open a queue: both numbers 0, all places zero, both sides idle. What was lent before does not matter. It checks 1
  * and 2 only, and is lent no buffer.
- * crates/queue/specs/Calls.antt, `openQueue`. */
+ * crates/queue/specs/Calls.antt, `open_queue`. */
 uint8_t lagumtay_queue_open(const lagumtay_queue_format *format, const uint16_t *bases, size_t m, uint8_t *queue,
                             size_t queue_len, lagumtay_queue_sender *sender, lagumtay_queue_receiver *receiver);
 
@@ -104,7 +104,7 @@ uint8_t lagumtay_queue_open(const lagumtay_queue_format *format, const uint16_t 
  * they know only the number on the queue. */
 
 /* Begin to send the record at this index. Its number is fixed: that of sent. Refusals 1, 2, 3, 8, 6 and 9.
- * crates/queue/specs/Sender.antt, `sendBegin`. */
+ * crates/queue/specs/Sender.antt, `send_begin`. */
 uint8_t lagumtay_queue_send_begin(const lagumtay_queue_format *format, const uint16_t *bases, size_t m,
                                   const uint8_t *queue, size_t queue_len, lagumtay_queue_sender *sender,
                                   const uint8_t *records, size_t records_len, size_t index);
@@ -113,13 +113,13 @@ uint8_t lagumtay_queue_send_begin(const lagumtay_queue_format *format, const uin
  * 2, 3 and 7, and with the gathering's last digit 3 or 13: then that step can be taken again, which reads only this
  * digit anew, or the sending cancelled. If received was carried over during the gathering, the other digits stay old,
  * and it may be refused for ever: so cancel, and begin afresh.
- * crates/queue/specs/Sender.antt, `sendStep`. */
+ * crates/queue/specs/Sender.antt, `send_step`. */
 uint8_t lagumtay_queue_send_step(const lagumtay_queue_format *format, const uint16_t *bases, size_t m, uint8_t *queue,
                                  size_t queue_len, lagumtay_queue_sender *sender, const uint8_t *records,
                                  size_t records_len);
 
 /* Abandon the sending, while no byte was moved: the sender is idle then. Refusals 1, 2, 3 and 7.
- * crates/queue/specs/Sender.antt, `sendCancel`. */
+ * crates/queue/specs/Sender.antt, `send_cancel`. */
 uint8_t lagumtay_queue_send_cancel(const lagumtay_queue_format *format, const uint16_t *bases, size_t m,
                                    const uint8_t *queue, size_t queue_len, lagumtay_queue_sender *sender,
                                    const uint8_t *records, size_t records_len);
@@ -129,7 +129,7 @@ uint8_t lagumtay_queue_send_cancel(const lagumtay_queue_format *format, const ui
  * know only the number on the queue. */
 
 /* Begin to receive the parcel whose number is that of received. Refusals 1, 2, 3 and 6.
- * crates/queue/specs/Receiver.antt, `receiveBegin`. */
+ * crates/queue/specs/Receiver.antt, `receive_begin`. */
 uint8_t lagumtay_queue_receive_begin(const lagumtay_queue_format *format, const uint16_t *bases, size_t m,
                                      const uint8_t *queue, size_t queue_len, lagumtay_queue_receiver *receiver,
                                      const uint8_t *buffer, size_t buffer_len);
@@ -137,13 +137,13 @@ uint8_t lagumtay_queue_receive_begin(const lagumtay_queue_format *format, const 
 /* The next step of the receiving. The n-th byte copies the parcel out; after the last digit the receiver is idle.
  * Refusals 1, 2, 3 and 7, and with the gathering's last digit 14: then that step can be taken again, which reads only
  * this digit anew, or the receiving cancelled.
- * crates/queue/specs/Receiver.antt, `receiveStep`. */
+ * crates/queue/specs/Receiver.antt, `receive_step`. */
 uint8_t lagumtay_queue_receive_step(const lagumtay_queue_format *format, const uint16_t *bases, size_t m,
                                     uint8_t *queue, size_t queue_len, lagumtay_queue_receiver *receiver,
                                     uint8_t *buffer, size_t buffer_len);
 
 /* Abandon the receiving, while no byte was moved: the receiver is idle then. Refusals 1, 2, 3 and 7.
- * crates/queue/specs/Receiver.antt, `receiveCancel`. */
+ * crates/queue/specs/Receiver.antt, `receive_cancel`. */
 uint8_t lagumtay_queue_receive_cancel(const lagumtay_queue_format *format, const uint16_t *bases, size_t m,
                                       const uint8_t *queue, size_t queue_len, lagumtay_queue_receiver *receiver,
                                       const uint8_t *buffer, size_t buffer_len);

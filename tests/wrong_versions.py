@@ -10,12 +10,12 @@ ROOT = pathlib.Path(__file__).resolve().parent.parent
 
 @contextlib.contextmanager
 def copy_of_sources(*left_out):
-    """A folder with the crates, without what is left out of each."""
+    """A folder with the crates, without what is left out of each and what rt made there."""
     with tempfile.TemporaryDirectory() as place:
         folder = pathlib.Path(place) / "copy"
         folder.mkdir()
         shutil.copy(ROOT / "crates.txt", folder)
-        shutil.copytree(ROOT / "crates", folder / "crates", ignore=shutil.ignore_patterns(*left_out))
+        shutil.copytree(ROOT / "crates", folder / "crates", ignore=shutil.ignore_patterns("out", *left_out))
         yield folder
 
 

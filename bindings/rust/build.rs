@@ -72,7 +72,7 @@ impl Archive {
         let file = self.file();
         format!(
             "{file} is not found. One of these helps:\n  \
-             - in the repository: `rt staticlib {name}` builds it in target/staticlib, where it is found\n  \
+             - in the repository: `tools/build {name}` builds it in target/staticlib, where it is found\n  \
              - installed: `make install` in the repository; if its prefix is not a usual one, let PKG_CONFIG_PATH\n    \
              name the directory of {name}.pc\n  \
              - anywhere: let {variable} name the file by its whole path"

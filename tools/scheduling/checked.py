@@ -10,7 +10,7 @@ from .picture import picture
 
 MOST_COMMANDS = 400
 MOST_SECONDS = 30
-BUILDS = "`rt check` builds it"
+BUILDS = "`tools/build runlist` builds it"
 
 
 def printed(program, data):
