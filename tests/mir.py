@@ -43,6 +43,15 @@ def shown(type_):
     raise ValueError(f"a type that is not known: {type_}")
 
 
+def given(type_, arguments):
+    """A type with what a generic one was given in the place of its parameters."""
+    if isinstance(type_, dict):
+        if list(type_) == ["Param"]:
+            return arguments[type_["Param"]]
+        return {name: given(made_of, arguments) for name, made_of in type_.items()}
+    return [given(it, arguments) for it in type_] if isinstance(type_, list) else type_
+
+
 def below(folder, crate):
     """A crate and all that it stands on."""
     uses = {}
@@ -102,13 +111,18 @@ class Mir:
         kind, made_of = sort(type_)
         structs = []
         if kind == "Named":
-            shape, members = sort(self.types[made_of[0]["name"]])
+            shape, members = self._declared(made_of)
             structs = [members] if shape == "Fields" else members
         elif kind == "Struct":
             structs = [made_of[1]]
         for fields in structs:
             for field in fields:
                 yield from self._parts(field)
+
+    def _declared(self, named):
+        """Whether a declared type has fields or variants, and their types."""
+        declared, arguments = named
+        return sort(given(self.types[declared["name"]], arguments))
 
     def _at(self, name, place):
         """The type of what stands at a place."""
@@ -130,7 +144,7 @@ class Mir:
         kind, made_of = sort(type_)
         if kind == "Struct":
             return made_of[1][k]
-        members = sort(self.types[made_of[0]["name"]])[1]
+        members = self._declared(made_of)[1]
         if variant is None:
             return members[k]
         return members[variant][k - 1] if k > 0 else {"Int": 8}

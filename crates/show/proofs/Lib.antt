@@ -1,0 +1,2 @@
+-- Lemmas of the functions' proofs.
+pub mod Words
