@@ -1,5 +1,5 @@
 //! Where the digits of a page lie, step by step: nowhere else is that computed. The page is c1, c2's own digits, v1, the
-//! record's bytes, v2. Past the last step the answer is 0.
+//! record's bytes, v2. Past the last step the answer is 0, the definitions' own.
 ghost use Rattle.std.specs.Prelude.{◌≡◌, get_or};
 ghost use Rattle.protocol.specs.Layout.{count_order, count_read_order, record_order, attempt_order};
 ghost use Rattle.checks.specs.Layout.{in_content};

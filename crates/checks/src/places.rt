@@ -8,6 +8,7 @@ ghost use Rattle.checks.specs.Seen.{shape};
 use crate::Form;
 
 /// The digit of step `k`, where a number's digits are visited out, and then back from the last one; 0 past the last step.
+// 0 and no Option: it is public, and its clause may not change.
 pub fn there_and_back(out: usize, back: usize, k: usize) -> usize
     ensures { result ≡ there_and_back out back k }
 {
