@@ -1,10 +1,10 @@
 -- A header's form, cut off part by part.
-use Rattle.std.proofs.Common.{◌≡◌, refl, sym, ap, ◌∙◌, ℕ, zero, suc, ◌+◌, ◌*◌, ◌-◌, ◌≤◌, ◌<◌, List, ◌∷◌, length, length-drop, get_or, take, drop, map, arith}
+use Rattle.std.proofs.Common.{◌≡◌, refl, sym, ap, ◌∙◌, ℕ, zero, suc, ◌+◌, ◌*◌, ◌-◌, ◌≤◌, ◌<◌, List, ◌∷◌, length, length-drop, get_or, take, drop, map, true, arith}
 use Rattle.std.proofs.lemmas.List.{drop-drop, get_or-drop, take_rest}
 use Rattle.std.specs.List.{IsSplitAt}
 use Rattle.radix.specs.Digits.{of_bytes}
 use Rattle.protocol.specs.Lists.{range}
-use Rattle.protocol.specs.Form.{form_of}
+use Rattle.protocol.specs.Form.{Form, form_of, good_form}
 use Rattle.codec.proofs.Bytes.{two_bytes, part-part}
 use Rattle.report.specs.Header.{number, places, form_end, form_in, header_in, record_at, records_at, commands_at}
 use Rattle.report.specs.Seen.{parts_size, PartsOf}
@@ -32,6 +32,15 @@ pub record Begun (s : List ℕ) (m : ℕ) (listed f : List ℕ) : Type 0 where
   pub some : 1 ≤ length s
   pub split : IsSplitAt (take (length s - 1) (drop 1 s)) (2 * m) listed f
   pub six : 6 ≤ length f
+
+pub begun :
+    {s : List ℕ} {m : ℕ} {listed f : List ℕ} → m ≡ places s → 1 ≤ length s →
+    IsSplitAt (take (length s - 1) (drop 1 s)) (2 * m) listed f → 6 ≤ length f → Begun s m listed f
+begun same some split six = record { same = same; some = some; split = split; six = six }
+
+-- the input's form is good if the one that was read passed the test
+pub good-read : {F G : Form} → true ≡ good_form F → F ≡ G → good_form G ≡ true
+good-read good form = sym (good ∙ ap good_form form)
 
 module _ {s : List ℕ} {m : ℕ} {listed f : List ℕ} (v : Begun s m listed f) where
   f-is : f ≡ drop (1 + 2 * m) s

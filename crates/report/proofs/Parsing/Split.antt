@@ -5,9 +5,10 @@ use Rattle.std.specs.Int.{from_be_bytes, w64, w16}
 use Rattle.std.specs.List.{IsSplitAt}
 use denote.Bor.{Bor}
 use Rattle.codec.proofs.Bytes.{length_part}
+use Rattle.codec.proofs.Numerals.{number-8}
 use Rattle.report.specs.Header.{number}
 use Rattle.report.specs.Seen.{PartsOf}
-use Rattle.report.proofs.Parsing.Numbers.{number-2, number-8}
+use Rattle.report.proofs.Parsing.Numbers.{number-2}
 
 -- a part of so many bytes, as std cuts it off
 abbrev pub Cut : (k : ℕ) → List ℕ → List ℕ → List ℕ → Type 0

@@ -1,6 +1,6 @@
 -- Each return is one test of the definition.
 use Rattle.std.proofs.lemmas.Result.{err_from_is_err_and}
-use Rattle.std.proofs.Common.{◌≡◌, sym, ap, ◌∙◌, Ok, true, ltb, arith}
+use Rattle.std.proofs.Common.{sym, ap, ◌∙◌, Ok, ltb, arith}
 use borrow.Author.Tests.{ltb-true, ltb-false}
 use Rattle.radix.specs.Digits.{product}
 use Rattle.protocol.specs.Form.{good_form}
@@ -11,6 +11,8 @@ use Rattle.report.proofs.Parsing.Forms.{
   bases-cut,
   six-cut,
   Begun,
+  begun,
+  good-read,
   ends,
   n-is,
   form-is,
@@ -54,12 +56,8 @@ returns-in_default-rest c =
 pub returns-in_err-form : goal.returns-in_err-form
 returns-in_err-form c =
     let t = told c.if-more.false c.in-len1-up.len_at_least c.from-m.ensures c.if-m-lt1.false c.if-m-gt8.false in
-    let v : Begun c.args.input.bytes.now c.from-m.result c.in-Some.listed.now c.in-Some.rest.now = record {
-      same = c.from-m.ensures;
-      some = c.in-len1-up.len_at_least;
-      split = c.in-Some.ensures.cases;
-      six = c.in-len6-up.len_at_least;
-    } in
+    let v : Begun c.args.input.bytes.now c.from-m.result c.in-Some.listed.now c.in-Some.rest.now =
+    begun c.from-m.ensures c.in-len1-up.len_at_least c.in-Some.ensures.cases c.in-len6-up.len_at_least in
     let form =
     form-is v c.bases-all.ensures c.from.ensures c.from_be_bytes.ensures (c.from-2.ensures ∙ c.from_be_bytes-2.ensures)
     c.from-3.ensures in
@@ -68,51 +66,36 @@ returns-in_err-form c =
 
 pub of-requires : goal.of-requires
 of-requires c =
-    let v : Begun c.args.input.bytes.now c.from-m.result c.in-Some.listed.now c.in-Some.rest.now = record {
-      same = c.from-m.ensures;
-      some = c.in-len1-up.len_at_least;
-      split = c.in-Some.ensures.cases;
-      six = c.in-len6-up.len_at_least;
-    } in
+    let v : Begun c.args.input.bytes.now c.from-m.result c.in-Some.listed.now c.in-Some.rest.now =
+    begun c.from-m.ensures c.in-len1-up.len_at_least c.in-Some.ensures.cases c.in-len6-up.len_at_least in
     let form =
     form-is v c.bases-all.ensures c.from.ensures c.from_be_bytes.ensures (c.from-2.ensures ∙ c.from_be_bytes-2.ensures)
     c.from-3.ensures in
-    let good : good_form (form_in c.args.input.bytes.now) ≡ true =
-    sym (c.in_ok-form.ensures.good ∙ ap good_form form) in
+    let good = good-read c.in_ok-form.ensures.good form in
     let n = n-is v (c.from-2.ensures ∙ c.from_be_bytes-2.ensures) in
     omega (arith, n, (in-range (form_in c.args.input.bytes.now) good).bytes)
 
 pub returns-in_default-of : goal.returns-in_default-of
 returns-in_default-of c =
     let t = told c.if-more.false c.in-len1-up.len_at_least c.from-m.ensures c.if-m-lt1.false c.if-m-gt8.false in
-    let v : Begun c.args.input.bytes.now c.from-m.result c.in-Some.listed.now c.in-Some.rest.now = record {
-      same = c.from-m.ensures;
-      some = c.in-len1-up.len_at_least;
-      split = c.in-Some.ensures.cases;
-      six = c.in-len6-up.len_at_least;
-    } in
+    let v : Begun c.args.input.bytes.now c.from-m.result c.in-Some.listed.now c.in-Some.rest.now =
+    begun c.from-m.ensures c.in-len1-up.len_at_least c.in-Some.ensures.cases c.in-len6-up.len_at_least in
     let form =
     form-is v c.bases-all.ensures c.from.ensures c.from_be_bytes.ensures (c.from-2.ensures ∙ c.from_be_bytes-2.ensures)
     c.from-3.ensures in
-    let good : good_form (form_in c.args.input.bytes.now) ≡ true =
-    sym (c.in_ok-form.ensures.good ∙ ap good_form form) in
+    let good = good-read c.in_ok-form.ensures.good form in
     let n = n-is v (c.from-2.ensures ∙ c.from_be_bytes-2.ensures) in
     parts-cut t (ends v) good (too_short v n c.in_default-of.ensures)
 
 pub returns-then-not-fits : goal.returns-then-not-fits
 returns-then-not-fits c =
     let t = told c.if-more.false c.in-len1-up.len_at_least c.from-m.ensures c.if-m-lt1.false c.if-m-gt8.false in
-    let v : Begun c.args.input.bytes.now c.from-m.result c.in-Some.listed.now c.in-Some.rest.now = record {
-      same = c.from-m.ensures;
-      some = c.in-len1-up.len_at_least;
-      split = c.in-Some.ensures.cases;
-      six = c.in-len6-up.len_at_least;
-    } in
+    let v : Begun c.args.input.bytes.now c.from-m.result c.in-Some.listed.now c.in-Some.rest.now =
+    begun c.from-m.ensures c.in-len1-up.len_at_least c.in-Some.ensures.cases c.in-len6-up.len_at_least in
     let form =
     form-is v c.bases-all.ensures c.from.ensures c.from_be_bytes.ensures (c.from-2.ensures ∙ c.from_be_bytes-2.ensures)
     c.from-3.ensures in
-    let good : good_form (form_in c.args.input.bytes.now) ≡ true =
-    sym (c.in_ok-form.ensures.good ∙ ap good_form form) in
+    let good = good-read c.in_ok-form.ensures.good form in
     let n = n-is v (c.from-2.ensures ∙ c.from_be_bytes-2.ensures) in
     let w = c.in-Some-of.ensures in
     let large = ltb-false _ _ (sym (c.fits.ensures ∙ ap (λ b. ltb c.in-Some-of.parts.count.0 (product b)) (c.all_bases.ensures ∙ c.in_ok-form.ensures.same.0 ∙ ap (λ F. F.bases) form)) ∙ c.if-not-fits.true) in
@@ -120,34 +103,24 @@ returns-then-not-fits c =
 
 pub invariant_of-result-clause-sized : goal.invariant_of-result-clause-sized
 invariant_of-result-clause-sized c =
-    let v : Begun c.args.input.bytes.now c.from-m.result c.in-Some.listed.now c.in-Some.rest.now = record {
-      same = c.from-m.ensures;
-      some = c.in-len1-up.len_at_least;
-      split = c.in-Some.ensures.cases;
-      six = c.in-len6-up.len_at_least;
-    } in
+    let v : Begun c.args.input.bytes.now c.from-m.result c.in-Some.listed.now c.in-Some.rest.now =
+    begun c.from-m.ensures c.in-len1-up.len_at_least c.in-Some.ensures.cases c.in-len6-up.len_at_least in
     let form =
     form-is v c.bases-all.ensures c.from.ensures c.from_be_bytes.ensures (c.from-2.ensures ∙ c.from_be_bytes-2.ensures)
     c.from-3.ensures in
-    let good : good_form (form_in c.args.input.bytes.now) ≡ true =
-    sym (c.in_ok-form.ensures.good ∙ ap good_form form) in
+    let good = good-read c.in_ok-form.ensures.good form in
     let r = in-range _ (ap good_form form ∙ good) in
     (omega (arith, r.versions), omega (arith, r.bytes), omega (arith, r.readers))
 
 pub returns : goal.returns
 returns c =
     let t = told c.if-more.false c.in-len1-up.len_at_least c.from-m.ensures c.if-m-lt1.false c.if-m-gt8.false in
-    let v : Begun c.args.input.bytes.now c.from-m.result c.in-Some.listed.now c.in-Some.rest.now = record {
-      same = c.from-m.ensures;
-      some = c.in-len1-up.len_at_least;
-      split = c.in-Some.ensures.cases;
-      six = c.in-len6-up.len_at_least;
-    } in
+    let v : Begun c.args.input.bytes.now c.from-m.result c.in-Some.listed.now c.in-Some.rest.now =
+    begun c.from-m.ensures c.in-len1-up.len_at_least c.in-Some.ensures.cases c.in-len6-up.len_at_least in
     let form =
     form-is v c.bases-all.ensures c.from.ensures c.from_be_bytes.ensures (c.from-2.ensures ∙ c.from_be_bytes-2.ensures)
     c.from-3.ensures in
-    let good : good_form (form_in c.args.input.bytes.now) ≡ true =
-    sym (c.in_ok-form.ensures.good ∙ ap good_form form) in
+    let good = good-read c.in_ok-form.ensures.good form in
     let n = n-is v (c.from-2.ensures ∙ c.from_be_bytes-2.ensures) in
     let w = c.in-Some-of.ensures in
     let small = ltb-true _ _ (sym (c.fits.ensures ∙ ap (λ b. ltb c.in-Some-of.parts.count.0 (product b)) (c.all_bases.ensures ∙ c.in_ok-form.ensures.same.0 ∙ ap (λ F. F.bases) form)) ∙ c.if-not-fits.false) in
