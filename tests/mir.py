@@ -1,5 +1,6 @@
 """The MIR of a crate and of what it uses, as the kit keeps it with a proved library: functions, their locals, and what they call
 and copy."""
+import collections
 import json
 import subprocess
 import sys
@@ -97,13 +98,13 @@ class Mir:
         return met
 
     def arrays(self, name):
-        """The arrays that a function holds, by themselves or in a struct, or reads or writes as a whole."""
+        """The arrays that a function holds, by themselves or in a struct, or reads or writes as a whole: how often, by their type."""
         body = self.bodies[name]
         places = [*within(body, "Copy"), *within(body, "Move")]
         places += [assigned[0] for assigned in within(body, "Assign")]
         places += [call[2] for call in within(body, "Call")]
         types = self.locals[name] + [self._at(name, place) for place in places]
-        return {shown(part) for type_ in types for part in self._parts(type_) if sort(part)[0] == "Array"}
+        return collections.Counter(shown(part) for type_ in types for part in self._parts(type_) if sort(part)[0] == "Array")
 
     def _parts(self, type_):
         """A type and those that lie in its values. What a value refers to does not lie in it."""
