@@ -1,8 +1,8 @@
-use Rattle.std.proofs.Common.{sym}
+use Rattle.std.proofs.Common.{sym, ◌∙◌}
 use Rattle.std.proofs.lemmas.Result.{err_from_is_err_and}
 use Rattle.page.specs.Calls.{on_start}
 use Rattle.page.proofs.Commands.{command-range}
-use Rattle.page.proofs.Calls.Steps.{step-carries}
+use Rattle.page.proofs.Calls.Steps.{step-carries, enough}
 use Rattle.page.proofs.stepping.step.Goals as goal
 
 pub returns-in_err-form-clause-whole : goal.returns-in_err-form-clause-whole
@@ -19,7 +19,7 @@ pub returns-clause-whole : goal.returns-clause-whole
 unfolding on_start
 returns-clause-whole c =
     rw (sym c.in_ok-form.ensures.start, sym c.in_ok-form.ensures.same)
-    (rw c.new-pen.ensures.same at c.command-answer.ensures.carried)
+    (rw c.new-pen.ensures.same at (c.command-answer.ensures.carried ∙ enough _ _ _))
 
 pub returns-clause-carries : goal.returns-clause-carries
 returns-clause-carries c log long =
