@@ -2,7 +2,7 @@
 use Rattle.radix.proofs.Numbers.Places.{take-four}
 use Rattle.checks.proofs.Looks.{page-parts}
 use Rattle.checks.proofs.Records.{index-whole}
-use Rattle.checks.proofs.Forms.{few-places, counts-good, versions-good}
+use Rattle.checks.proofs.Forms.{counts-good, versions-good}
 use Rattle.checks.proofs.Digits.Eights.{below-on, below-off, below-end, eight-parts}
 use Rattle.checks.proofs.Digits.Sums.{sum_first, sum-end, sum-outside}
 use lib.Seq.{get_or-take, get_or-drop}
@@ -55,13 +55,13 @@ pub ruleset bases = (counts-good, versions-good)
 pub ruleset sums = (sum_first, sum-end, get_or-take, get_or-drop)
 
 -- sixteen digits in two halves
-pub ruleset halves = (gathered-first, gathered-second, few-places)
+pub ruleset halves = (gathered-first, gathered-second)
 
 -- one turn over the bits of sixteen digits
 pub ruleset bits = (bits-first, sum-end, none-gathered)
 
 -- a reader by its kind
-pub ruleset readers = (no-read, count-read, record-read, no-kind, take-four, versions-good)
+pub ruleset readers = (no-read, count-read, record-read, no-kind, take-four)
 
 -- a choice that no read has
 pub ruleset choices = (bad-choice)

@@ -1,5 +1,5 @@
 //! Which digit of its number a step writes, and where a reader keeps the digit that it read.
-ghost use Rattle.std.specs.Prelude.{◌≡◌, ◌&&◌, cond, ◌≤◌, leb, length};
+ghost use Rattle.std.specs.Prelude.{◌≡◌, ◌&&◌, cond, ◌+◌, ◌-◌, ◌≤◌, leb, length, min};
 ghost use Rattle.protocol.specs.Form.{own};
 ghost use Rattle.protocol.specs.Allowed.{version_digits};
 ghost use Rattle.checks.specs.Layout.{there_and_back, slot_of};
@@ -45,12 +45,20 @@ pub fn slot(there: usize, back: usize, k: usize) -> usize
     }
 }
 
+// How many digits of versions k steps have passed, of so many digits and bytes.
+pub(crate) fn passed(q: usize, n: usize, k: usize) -> usize
+    requires { q + n ≤ usize.MAX }
+    ensures { result ≡ min k q + (k - (q + n)) }
+{
+    k.min(q) + k.saturating_sub(q + n)
+}
+
 impl Form<'_> {
     /// How many digits of versions an attempt has gathered, or a record write has put down, after `k` steps.
     pub fn version_digits(self, k: usize) -> usize
         ensures { result ≡ version_digits (shape self.entry) k }
     {
-        k.min(self.format.q) + k.saturating_sub(self.format.q + self.format.n)
+        passed(self.format.q, self.format.n, k)
     }
 
     /// The digit of the count that step `k` of a count write puts down.

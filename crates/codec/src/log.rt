@@ -86,3 +86,20 @@ impl Log<'_> {
         }
     }
 }
+
+/// The entry of an outcome in a log from a place on, and the place after it; nothing, if there is no room for it.
+// No crate here calls it: it is for a program that keeps the place of its log by itself.
+#[tactic(auto, unfolding(crate::specs::Entry::put_at))]
+pub fn put(log: &mut [u8], at: usize, outcome: Outcome) -> usize
+    ensures { added log.new result ≡ put_at log.old at outcome }
+{
+    if log.len() < at {
+        return at;
+    }
+    let mut log = Log {
+        bytes: log,
+        written: at,
+    };
+    log.put(outcome);
+    log.written
+}

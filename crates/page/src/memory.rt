@@ -70,7 +70,7 @@ impl Memory<'_> {
         ensures whole { IfOk result (λ form. eqb (length records.now % form.format.n) 0 ≡ true) }
     {
         let form = Form::new(format, bases)?;
-        states::start(
+        states::start_with(
             form,
             self.readers,
             self.page,

@@ -14,4 +14,4 @@ returns-in_err-form-clause-start c =
 pub returns-clause-whole : goal.returns-clause-whole
 returns-clause-whole c =
     let m = c.args.self.now in
-    eq-eqb _ 0 (begins _ c.args.records.now _ (sym (c.in_ok-start.ensures.whole m.buffers.now refl))).whole
+    eq-eqb _ 0 (begins _ c.args.records.now _ (sym (c.in_ok-start_with.ensures.whole m.buffers.now refl))).whole

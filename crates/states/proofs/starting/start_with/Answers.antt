@@ -3,7 +3,7 @@ use Rattle.std.proofs.Common.{sym, refl, ◌∙◌}
 use Rattle.checks.specs.Seen.{shape}
 use Rattle.checks.specs.Start.{lent}
 use Rattle.states.proofs.Starts.{start-parts, start-ready}
-use Rattle.states.proofs.starting.start.Goals as goal
+use Rattle.states.proofs.starting.start_with.Goals as goal
 
 pub returns-clause-ready : goal.returns-clause-ready
 returns-clause-ready c = λ bs long.
