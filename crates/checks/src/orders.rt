@@ -8,10 +8,12 @@ ghost use Rattle.checks.specs.Seen.{shape};
 
 use crate::Form;
 
-// Over bare numbers: a `Form`'s methods hand on its own without a test, and `layout` those of any format.
+// Over bare numbers: a `Form`'s methods hand on its own without a test, and `layout` those of any format. Put into their callers:
+// every step asks for a place.
 
 // Step k of a count write, of so many places to a copy and so many of c2's own.
 #[tactic(auto, using(crate::proofs::Rules::writes))]
+#[inline(always)]
 pub(crate) fn write_at(places: usize, own: usize, k: usize) -> usize
     requires { places + own ≤ usize.MAX }
     ensures { (F : Shape) → m F ≡ places → own_of F ≡ own → result ≡ get_or (count_order F) k 0 }
@@ -27,6 +29,7 @@ pub(crate) fn write_at(places: usize, own: usize, k: usize) -> usize
 
 // Step k of a count read.
 #[tactic(auto, using(crate::proofs::Rules::reads))]
+#[inline(always)]
 pub(crate) fn read_at(places: usize, own: usize, k: usize) -> usize
     requires { places + own ≤ usize.MAX }
     ensures { (F : Shape) → m F ≡ places → own_of F ≡ own → result ≡ get_or (count_read_order F) k 0 }
@@ -42,6 +45,7 @@ pub(crate) fn read_at(places: usize, own: usize, k: usize) -> usize
 
 // Step k of a record write, where v1 begins at a place, of so many digits and bytes.
 #[tactic(auto, using(crate::proofs::Rules::records))]
+#[inline(always)]
 pub(crate) fn record_at(from: usize, q: usize, n: usize, k: usize) -> usize
     requires { (from ≤ 16) × (q ≤ 4) × (n ≤ 256) }
     ensures { (F : Shape) → count_steps F ≡ from → F.q ≡ q → F.n ≡ n → result ≡ get_or (record_order F) k 0 }
@@ -57,6 +61,7 @@ pub(crate) fn record_at(from: usize, q: usize, n: usize, k: usize) -> usize
 
 // Step k of an attempt.
 #[tactic(auto, using(crate::proofs::Rules::attempts))]
+#[inline(always)]
 pub(crate) fn attempt_at(from: usize, q: usize, n: usize, k: usize) -> usize
     requires { (from ≤ 16) × (q ≤ 4) × (n ≤ 256) }
     ensures { (F : Shape) → count_steps F ≡ from → F.q ≡ q → F.n ≡ n → result ≡ get_or (attempt_order F) k 0 }
@@ -73,6 +78,7 @@ pub(crate) fn attempt_at(from: usize, q: usize, n: usize, k: usize) -> usize
 }
 
 // Does step k move a byte of the record, of so many digits and bytes?
+#[inline(always)]
 pub(crate) fn moves(q: usize, n: usize, k: usize) -> bool
     requires { (q ≤ 4) × (n ≤ 256) }
     ensures { result ≡ (leb q k && ltb k (q + n)) }

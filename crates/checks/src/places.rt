@@ -46,6 +46,7 @@ pub fn slot(there: usize, back: usize, k: usize) -> usize
 }
 
 // How many digits of versions k steps have passed, of so many digits and bytes.
+#[inline(always)]
 pub(crate) fn passed(q: usize, n: usize, k: usize) -> usize
     requires { q + n ≤ usize.MAX }
     ensures { result ≡ min k q + (k - (q + n)) }

@@ -33,7 +33,7 @@ use Rattle.page.specs.Calls.{bytes_of, ran_lent, ran_of, run_lent, ran_as}
 use Rattle.page.specs.Runs.{Acted, acted, entered, act_lent, WentOn}
 use Rattle.codec.specs.Decode.{took, taken}
 use Rattle.page.proofs.Loop.Taken.{none-taken, taken_next}
-use Rattle.page.proofs.Loop.Told.{told-none}
+use Rattle.codec.proofs.Told.{told-none}
 
 -- some commands carried out, and then the rest
 abbrev pub behind : List Event → Execution → Execution

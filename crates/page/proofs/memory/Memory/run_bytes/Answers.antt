@@ -2,7 +2,7 @@ use Rattle.std.proofs.Common.{◌∙◌, sym, refl, eqb-true, Ok, Err}
 use Rattle.std.proofs.lemmas.Result.{err_from_is_err_and}
 use Rattle.protocol.specs.declared.Refusal.TheVariants.{UnknownCommand}
 use Rattle.page.proofs.Loans.{same, same-then}
-use Rattle.page.proofs.Loop.Told.{told-some}
+use Rattle.codec.proofs.Told.{told-some}
 use Rattle.page.proofs.Loop.SoFar.{so-first, so-on, so-stays, so-turn, so-ends, so-over, so-unknown}
 use Rattle.page.proofs.memory.Memory.run_bytes.Goals as goal
 
