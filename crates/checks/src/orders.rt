@@ -27,17 +27,17 @@ pub(crate) fn write_at(places: usize, own: usize, k: usize) -> usize
     }
 }
 
-// Step k of a count read.
+// Step k of a count read, of so many steps.
 #[tactic(auto, using(crate::proofs::Rules::reads))]
 #[inline(always)]
-pub(crate) fn read_at(places: usize, own: usize, k: usize) -> usize
-    requires { places + own ≤ usize.MAX }
-    ensures { (F : Shape) → m F ≡ places → own_of F ≡ own → result ≡ get_or (count_read_order F) k 0 }
+pub(crate) fn read_at(places: usize, steps: usize, k: usize) -> usize
+    requires { places + steps ≤ usize.MAX }
+    ensures { (F : Shape) → m F ≡ places → count_steps F ≡ steps → result ≡ get_or (count_read_order F) k 0 }
 {
     if k < places {
         k
-    } else if k < places + own {
-        places + (places + own - 1 - k)
+    } else if k < steps {
+        places + (steps - 1 - k)
     } else {
         0
     }
@@ -99,7 +99,7 @@ impl Form<'_> {
     pub fn count_position(self, k: usize) -> usize
         ensures { result ≡ get_or (count_read_order (shape self.entry)) k 0 }
     {
-        read_at(self.bases.len(), self.own(), k)
+        read_at(self.bases.len(), self.count_steps(), k)
     }
 
     /// The position of step `k` of a record write: v1 left to right, the bytes ascending, v2 right to left.
